@@ -1,5 +1,6 @@
 #!/usr/bin/env python3
-"""Makes the small PDF files of press/test.sh: small_pdf.py FOLDER."""
+# SPDX-License-Identifier: Apache-2.0
+"""Makes the small PDF files of the press room's tests: small_pdf.py FOLDER."""
 import os
 import sys
 
@@ -50,8 +51,8 @@ def patterned(path, pair):
 ODD_NAMES = [b"PANTONE 185 C", b"PANTONE/185/C", b"100% (matt)", "Gr\u00fcn".encode(), b"-dash", b"a:b", b"x" * 100, b"tab\there", b"#5"]
 
 
-def main():
-    folder = sys.argv[1]
+def write_samples(folder):
+    """Writes every sample file into the folder."""
     pdf(os.path.join(folder, "two.pdf"), [squares([b"Warm Red", b"Gold Foil"])])
     pdf(os.path.join(folder, "gray.pdf"), [page([], "0.4 g 10 10 60 20 re f")])
     pdf(os.path.join(folder, "blank.pdf"), [page([], "")])
@@ -94,4 +95,5 @@ def main():
             out.write(data)
 
 
-main()
+if __name__ == "__main__":
+    write_samples(sys.argv[1])

@@ -1,0 +1,144 @@
+# SPDX-License-Identifier: Apache-2.0
+"""TIFF files out, as the usual tools read them; and separations of another RIP in, of 8 and 16 bits and both polarities."""
+import subprocess
+from pathlib import Path
+
+import pytest
+from readers import plate, tiff_plane, tiff_tags
+from room import Room, needs
+
+COLORANTS = ("Cyan", "Magenta", "Yellow", "Black", "Gold Foil", "Warm Red")
+CMYK_PROFILE, RGB_PROFILE = (f"/usr/share/color/icc/ghostscript/{name}.icc" for name in ("default_cmyk", "srgb"))
+RESOLUTION = ("-xresolution=600", "-yresolution=600", "-resolutionunit=inch")
+
+
+def printed(*words: str | Path) -> str:
+    """What a tool prints."""
+    return subprocess.run(words, capture_output=True, text=True, check=True).stdout
+
+
+@pytest.fixture(name="composite")
+def fixture_composite(room: Room, two: Path) -> Path:
+    """The TIFF file of all inks of an untrapped page."""
+    assert two.is_dir()
+    room.goes("tiff", "--untrapped", "--name", "all", "two", "tiffs")
+    return room / "tiffs" / "all.tif"
+
+
+@needs("tifftopnm")
+def test_composite_to_netpbm(composite: Path) -> None:
+    """Netpbm reads the first page as a picture in RGB."""
+    done = subprocess.run(["tifftopnm", "-quiet", composite], capture_output=True, check=True)
+    assert done.stdout.startswith(b"P6\n1000 400\n255\n")
+
+
+@needs("tiffinfo")
+def test_composite_to_libtiff(composite: Path) -> None:
+    """libtiff reads three pages, the spots with their names, without a warning."""
+    done = subprocess.run(["tiffinfo", composite], capture_output=True, text=True, check=True)
+    assert done.stdout.count("=== TIFF directory") == 3, done
+    assert "PageName: Gold Foil" in done.stdout and "PageName: Warm Red" in done.stdout, done
+    assert "warning" not in (done.stdout + done.stderr).lower() and "extra" not in (done.stdout + done.stderr).lower(), done
+
+
+@needs("identify")
+def test_composite_to_imagemagick(composite: Path) -> None:
+    """ImageMagick reads CMYK without transparency, and gray pages with the spots' names."""
+    assert printed("identify", "-format", "%[colorspace] %A %l\n", composite) == "CMYK False \nGray False Gold Foil\nGray False Warm Red\n"
+
+
+@needs("vips")
+def test_composite_to_libvips(composite: Path) -> None:
+    """libvips reads four bands of CMYK."""
+    assert printed("vipsheader", "-f", "bands", composite).strip() == "4"
+    assert printed("vipsheader", "-f", "interpretation", composite).strip() in ("cmyk", "((VipsInterpretation) VIPS_INTERPRETATION_CMYK)")
+
+
+@needs("tifftopnm")
+def test_pages_of_the_composite(room: Room, composite: Path) -> None:
+    """The pages of spots are the plates: 0 is no ink there, and the file says so. There is a picture beside it."""
+    pages = tiff_tags(composite)
+    assert [page["polarity"] for page in pages] == [[5], [0], [0]]
+    assert (room / "tiffs/all.png").read_bytes().startswith(b"\x89PNG")
+
+
+@needs("vips")
+def test_inks_of_the_composite(room: Room, composite: Path) -> None:
+    """Each ink of the composite is its plate turned round for the process inks, and the plate as libvips reads it for the spots."""
+    for band, name in enumerate(COLORANTS):
+        ink, raw = room.beside / f"{band}.v", room.beside / f"{band}.raw"
+        if band < 4:
+            subprocess.run(["vips", "extract_band", composite, ink, str(band)], check=True)
+        else:
+            subprocess.run(["vips", "invert", f"{composite}[page={band - 3}]", ink], check=True)
+        subprocess.run(["vips", "rawsave", ink, raw], check=True)
+        expected = plate(room / "two" / f"{name.replace(' ', '_')}.pgm")
+        assert raw.read_bytes() == (255 - expected).tobytes(), name
+
+
+def test_spots_as_channels(room: Room, two: Path) -> None:
+    """--channels makes the spots extra channels of no kind of transparency."""
+    assert two.is_dir()
+    room.goes("tiff", "--untrapped", "--channels", "--name", "all", "two", "channels")
+    page, = tiff_tags(room / "channels/all.tif")
+    assert page["extra channels"] == [0, 0] and page["channels"] == [6]
+    assert page["inks"] == b"".join(name.encode() + b"\0" for name in COLORANTS)
+
+
+def test_picture_by_a_profile(room: Room, composite: Path) -> None:
+    """--icc draws another picture; a profile that is none of a press is refused."""
+    room.goes("tiff", "--untrapped", "--name", "all", "two", "profiled", "--icc", CMYK_PROFILE)
+    assert (room / "profiled/all.png").read_bytes() != composite.with_suffix(".png").read_bytes()
+    room.refused(4, rf"press-tiff: {RGB_PROFILE}: no profile of a press with four inks", "tiff", "--untrapped", "two", "new", "--icc", RGB_PROFILE)
+
+
+@pytest.fixture(name="separations")
+def fixture_separations(room: Room, two: Path) -> Room:
+    """The separations of two.pdf in the folder seps, of 8 and 16 bits, of both polarities, and turned round."""
+    assert two.is_dir()
+    room.goes("tiff", "--untrapped", "--name", "sep", "two", "seps")
+    for name in COLORANTS:
+        source = room / f"seps/sep({name}).tif"
+        gray = subprocess.run(["tifftopnm", "-quiet", source], capture_output=True, check=True).stdout
+        deep = subprocess.run(["pamdepth", "-quiet", "65535"], input=gray, capture_output=True, check=True).stdout
+        turned = subprocess.run(["pnminvert"], input=gray, capture_output=True, check=True).stdout
+        for kind, data, options in (("wide", deep, RESOLUTION), ("white", gray, ("-miniswhite", *RESOLUTION)), ("turned", turned, ())):
+            done = subprocess.run(["pamtotiff", "-quiet", *options], input=data, capture_output=True, check=True)
+            room.write(f"seps/{kind}({name}).tif", done.stdout)
+    return room
+
+
+def from_tiffs(room: Room, kind: str, *options: str) -> Path:
+    """The page that press/plates makes of separations of that kind."""
+    files = [word for name in COLORANTS for word in ("--tiff", f"{name}=seps/{kind}({name}).tif")]
+    room.goes("plates", *files, kind, "--kind", "Gold Foil=Normal", *options)
+    return room / kind
+
+
+@needs("tifftopnm", "pamtotiff")
+@pytest.mark.parametrize("kind, options", [("sep", ()), ("white", ()), ("turned", ("--inverted", "--dpi", "600"))])
+def test_separations_of_8_bits(separations: Room, kind: str, options: tuple[str, ...]) -> None:
+    """The plates are those that the separations were made of, whatever the polarity."""
+    page = from_tiffs(separations, kind, *options)
+    for name in ("Cyan", "Gold_Foil", "Warm_Red"):
+        assert (page / f"{name}.pgm").read_bytes() == (separations / "two" / f"{name}.pgm").read_bytes(), name
+
+
+@needs("tifftopnm", "pamtotiff")
+def test_separations_of_16_bits(separations: Room, built: None) -> None:
+    """Plates of 16 bits are trapped, and the TIFF files have them as they are."""
+    page = from_tiffs(separations, "wide", "--width", "0.2mm")
+    assert (page / "Cyan.pgm").read_bytes().startswith(b"P5\n1000 400\n65535\n")
+    separations.goes("trap", "wide")
+    separations.goes("tiff", "wide", "wide/tiff")
+    trapped = plate(page / "trapped/Cyan.pgm")
+    assert (tiff_plane(page / "tiff/wide-1(Cyan).tif") == trapped).all()
+    assert (trapped != plate(page / "Cyan.pgm")).any()
+
+
+@needs("tifftopnm", "pamtotiff")
+def test_files_that_are_no_separations(separations: Room) -> None:
+    """A file that is no TIFF file, and one that does not give its resolution, are refused."""
+    separations.refused(7, r"press-plates: two\.pdf: no TIFF file", "plates", "--tiff", "Cyan=two.pdf", "new")
+    separations.refused(2, r"press-plates: .*turned\(Cyan\)\.tif does not say its resolution .*", "plates", "--tiff",
+                        "Cyan=seps/turned(Cyan).tif", "new")
