@@ -3,6 +3,7 @@
 import json
 import re
 import subprocess
+import tempfile
 from pathlib import Path
 
 import pytest
@@ -44,15 +45,17 @@ def test_report_as_json(sheet: Path) -> None:
 def test_script_in_a_browser(room: Room, sheet: Path) -> None:
     """A browser runs the sheet's script: the parts are drawn. One that does not come up on a busy machine is started again."""
     dom = ""
-    for _ in range(BROWSER_STARTS):
-        words = [*CHROMIUM, f"--user-data-dir={room.beside / 'browser'}", f"file://{sheet}"]
-        try:
-            dom = subprocess.run(words, capture_output=True, text=True, timeout=BROWSER_SECONDS, check=False,
-                                 env={**room.environment, "HOME": str(room.beside), "TMPDIR": str(room.beside)}).stdout
-        except subprocess.TimeoutExpired:
-            continue
-        if 'data-drawn="yes"' in dom:
-            break
+    # The browser's sockets need a short path.
+    with tempfile.TemporaryDirectory(prefix="browser-", ignore_cleanup_errors=True) as home:
+        words = [*CHROMIUM, f"--user-data-dir={home}/data", f"file://{sheet}"]
+        for _ in range(BROWSER_STARTS):
+            try:
+                dom = subprocess.run(words, capture_output=True, text=True, timeout=BROWSER_SECONDS, check=False,
+                                     env={**room.environment, "HOME": home, "TMPDIR": home}).stdout
+            except subprocess.TimeoutExpired:
+                continue
+            if 'data-drawn="yes"' in dom:
+                break
     assert 'data-drawn="yes"' in dom and "2 across, 0 down, in samples" in dom
 
 
