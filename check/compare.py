@@ -10,6 +10,7 @@ import argparse
 import json
 import multiprocessing
 import os
+import random
 import shutil
 import subprocess
 import sys
@@ -18,10 +19,12 @@ import time
 from collections import Counter, namedtuple
 
 import coverage
+import programs
 import slow
 import slow.rule
 import worked
-from maker.cases import FULL, Case, case, large_case
+from maker.cases import FOLDER, FULL, Case
+from programs.trap import large_case
 from slow.outside import Held
 
 HERE = os.path.dirname(os.path.abspath(__file__))
@@ -30,6 +33,13 @@ LONGEST_RUN = 180
 
 # What a run leaves: its status, what is told, and the files by name.
 Outcome = namedtuple("Outcome", "status told files")
+
+
+def case(program, seed, number):
+    """The random case of this number; it depends on nothing else."""
+    rng = random.Random("%s %s %s" % (program, seed, number))
+    words, files = programs.of(program, "make")(rng)
+    return Case(program, words, {FOLDER: None, **files}, rng.random() < 0.02)
 
 
 def encoded(text):

@@ -4,42 +4,10 @@ import re
 import sys
 from collections import Counter
 
+import programs
 import slow.rule
-from slow.entries import KINDS, PARAMETERS, S
+from slow.entries import KINDS, S
 from slow.rule import distance_squared, samples_of, sides
-
-JOB_KINDS = ["JobTooLong", "BadToken", "NumberTooLarge", "Unclosed", "Unmatched", "OddDictionary", "KeyNotName",
-             "NameInside", "TooDeep", "UnknownOperator", "WrongOperands", "NotDictionary", "MissingKey", "WrongType",
-             "BadDensity", "BadKind", "BadResolution", "NoCurrentPoint", "CoordinateRange", "TooManyVertices",
-             "TooManyZones", "NoPageDevice", "NoShowpage", "AfterShowpage"]
-JOB_LINES = (["job: %s at #" % kind for kind in JOB_KINDS] + ["job: WrongKind %s at #" % key for key in PARAMETERS]
-             + ["job: OutOfRange %s at #" % key for key, ranges in PARAMETERS.items() if ranges]
-             + ["job: WrongKind Trapping at #"])
-PLATE_LINES = ["plate #: %s at #" % kind for kind in ("BadMagic", "BadHeader", "SideRange", "TooManySamples",
-                                                     "MaxvalRange", "SampleAboveMaxval", "Truncated", "TrailingBytes")]
-PAGE_LINES = ["page: SizeDiffers plate #", "page: MaxvalDiffers plate #", "page: ReachTooWide zone #",
-              "job: NoDetails for plate #"]
-READ_LINES = ["read fault: job", "read fault: plate #"]
-WRITE_LINES = ["write fault: plate #", "write fault: report"]
-GATHER_LINES = JOB_LINES + PLATE_LINES + PAGE_LINES + READ_LINES
-# These come before the first page of a job of many pages.
-WHOLE_JOB_LINES = ["job: %s at #" % kind for kind in [*JOB_KINDS[:9], "NoShowpage", "AfterShowpage"]]
-
-# What is looked for: for each program its lines, "" being the end of a run that tells nothing or a result.
-LINES = {
-    "trap": ["", "report", "usage", "status 1", "untold", "page: TooManySamples", *GATHER_LINES, *WRITE_LINES],
-    "trapset": ["", "usage", "untold", *GATHER_LINES, "read fault: set", "write fault: set", "write fault: plate #",
-                "set: BadLine #", "set: Differs"],
-    "traprun": ["", "usage", "untold", "read fault: job", "run: TooManyPages at #", "run: plate #: Extra",
-                "page #: plate #: Ends", *WHOLE_JOB_LINES, *PLATE_LINES[:7],
-                *("page #: " + line for line in [*JOB_LINES, *PLATE_LINES[:7], *PAGE_LINES, READ_LINES[1], *WRITE_LINES]
-                  if line not in WHOLE_JOB_LINES)],
-    "trapsheet": ["", "usage", "untold", "sheet: Far in zone #", "sheet: Uncut",
-                  *(line for line in GATHER_LINES if "TooManySamples" not in line), *WRITE_LINES],
-    "presscheck": ["result", "usage", "untold", *GATHER_LINES],
-    "trappool": ["usage", "untold", "read fault: list", "list: BadLine #", "job #: done",
-                 *("job #: " + line for line in [*GATHER_LINES, *WRITE_LINES])],
-}
 
 FEATURES = [
     "maxval 1", "maxval of one byte", "maxval 255", "maxval 256", "maxval of two bytes", "maxval 65535", "one plate",
@@ -280,7 +248,7 @@ def tell(met, names):
     """The table of what was met, and what was not."""
     missing = []
     for name in [*names, "page"]:
-        expected = FEATURES if name == "page" else LINES[name]
+        expected = FEATURES if name == "page" else programs.of(name, "LINES")
         others = sorted({line for program, line in met if program == name} - set(expected))
         print("%s:" % ("what the pages were like, in how many cases" if name == "page" else name))
         for line in [*expected, *others]:

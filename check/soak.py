@@ -17,7 +17,7 @@ import tempfile
 import time
 
 from faults.runs import ROOM
-from refused import INKS, job
+from samples import INKS, job
 
 HERE = os.path.dirname(os.path.abspath(__file__))
 TOP = os.path.dirname(HERE)

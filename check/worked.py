@@ -13,12 +13,9 @@ from slow.pages import zone_reach
 from slow.refusals import JobFault, PlateFault
 from slow.plates import plate_of, spelled
 from slow.tokens import tokens_of
-from slow.trapset import USAGE as TRAPSET_USAGE
-from slow.traprun import USAGE as TRAPRUN_USAGE
+from table import USAGES
 
 INKS = [("Cyan", "0.61"), ("Magenta", "0.76"), ("Yellow", "0.16"), ("Black", "1.70")]
-TRAP_USAGE = ("usage: trap page [--workers N] [--band B] JOB REPORT NAME:IN:OUT ... | "
-              "trap sample NUMBER WIDTH HEIGHT WORKERS\n")
 wrong = []
 
 
@@ -240,7 +237,7 @@ def words():
                   "page J R C:a:R".split(), "sample 1 2 3".split(), "sample 4294967296 2 2 1".split(),
                   "sample 0 16385 1 1".split(), "sample 0 1 1 65".split()):
         outside = Held({})
-        check("words %r" % given, (run("trap", given, outside), outside.told), (2, TRAP_USAGE))
+        check("words %r" % given, (run("trap", given, outside), outside.told), (2, "usage: " + USAGES["trap"] + "\n"))
 
 
 def samples():
@@ -358,7 +355,7 @@ def sets():
         check("outputs of apply", [raster(outside.files.get(name)) for name in "ab"],
               ["00 00 00 00 FF FF", "FF FF 00 00 00 00"] if status == 0 else [None, None])
     outside = Held({})
-    check("no words", (run("trapset", [], outside), outside.told), (2, "usage: " + TRAPSET_USAGE + "\n"))
+    check("no words", (run("trapset", [], outside), outside.told), (2, "usage: " + USAGES["trapset"] + "\n"))
 
 
 def many_pages():
@@ -384,7 +381,7 @@ def many_pages():
         check("%d pages" % count, (found, outside.told), (status, line))
     outside = Held({})
     check("an input that is an output", (run("traprun", ["1", "1", "j", "r", "C:a.0:a"], outside), outside.told),
-          (2, "usage: " + TRAPRUN_USAGE + "\n"))
+          (2, "usage: " + USAGES["traprun"] + "\n"))
 
 
 def press():

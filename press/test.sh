@@ -219,11 +219,11 @@ try_tools() {
   mkdir ../bare-bin && printf '#!/bin/sh\n' >../bare-bin/trap && chmod +x ../bare-bin/trap
   refused 3 "press-trap: the program presscheck is not there: .*" env TRAP_BIN="$PWD/../bare-bin" "$here/trap" two --check 1
   # A repository without built programs: none is built, and what to do is told.
-  mkdir -p ../fresh/crates/trap ../fresh/press && cp -r "$here/trap" "$here/lib" ../fresh/press/
+  mkdir -p ../fresh/crates/trap ../fresh/press ../fresh/bin && cp -r "$here/trap" "$here/lib" ../fresh/press/
   # shellcheck disable=SC2016
-  printf '#!/bin/sh\ntouch "${0%%/*}/ran"\nexit 2\n' >../fresh/trap && chmod +x ../fresh/trap
+  printf '#!/bin/sh\ntouch "${0%%/*}/ran"\nexit 2\n' >../fresh/bin/trap && chmod +x ../fresh/bin/trap
   path=$(without trap)
-  refused 3 "press-trap: the program trap is not built yet: /.*/fresh/trap does it, .*; or TRAP_BIN names .*" \
+  refused 3 "press-trap: the program trap is not built yet: /.*/fresh/bin/trap does it, .*; or TRAP_BIN names .*" \
     env -u TRAP_BIN PATH="$path" ../fresh/press/trap two
   [ ! -e ../fresh/ran ] || wrong "tools: a program was built without being asked for"
 }

@@ -7,7 +7,7 @@ import threading
 
 from . import runs
 from .calls import before_of, differs
-from .cases import OLD
+from .case import OLD
 
 _skipped = {}
 

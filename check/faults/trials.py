@@ -1,7 +1,7 @@
 # SPDX-License-Identifier: Apache-2.0
 """The trials of places, rights, disks and two runs at once."""
 from . import places, rights
-from .cases import CASES, WRITING, NAMES
+from .cases import CASES, WRITING, names_of
 
 RACES, SHORT_RACES = 40, 6
 
@@ -39,7 +39,7 @@ def all_of(program, library, is_short):
         yield from of_inputs(case, is_short)
         if places.plain_of(case).told:
             yield "no reader of " + case.words[0], lambda case=case: places.no_reader(case)
-    for case, is_right in NAMES if program == "trap" else []:
+    for case, is_right in names_of(program):
         yield "name %s" % case.words[2][:20], lambda case=case, is_right=is_right: places.named(case, is_right)
 
 

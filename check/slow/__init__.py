@@ -4,18 +4,15 @@
 It is written to be checked by reading, and not to be fast. Numbers of the rule are whole: parameters, densities and
 coordinates in ten-thousandths, places in samples or in half-samples. Want of memory is not a part of it.
 """
-from . import presscheck, trap, trappool, traprun, trapset, trapsheet
+import importlib
+
+from table import NAMES
+
 from .outside import TellFault
 from .refusals import Refusal
 
-PROGRAMS = {
-    "trap": trap.run,
-    "trapset": trapset.run,
-    "traprun": traprun.run,
-    "presscheck": presscheck.run,
-    "trappool": trappool.run,
-    "trapsheet": trapsheet.run,
-}
+# Each program is the call `run` of the module of its name.
+PROGRAMS = {name: importlib.import_module("slow." + name).run for name in NAMES}
 
 
 def run(program, words, outside):

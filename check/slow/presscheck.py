@@ -9,14 +9,12 @@ from .refusals import usage
 from .rule import rule_of
 from .words import NoCommand, judge_names, many, number
 
-USAGE = "presscheck RADIUS JOB NAME:IN ..."
-
 
 def run(words, outside):
     try:
         radius, job, names, inputs = command_of(words)
     except NoCommand:
-        raise usage(USAGE)
+        raise usage("presscheck")
     page, _ = gather(outside, job, names, inputs)
     before = risk(page, page.planes, radius)
     after = risk(page, rule_of(page).new_planes(), radius)

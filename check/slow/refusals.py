@@ -1,5 +1,6 @@
 # SPDX-License-Identifier: Apache-2.0
 """Refusals: each has the line that is told and the status that the program ends with."""
+from table import USAGES
 
 USAGE, JOB, PAGE, READ, WRITE, SET, LINES = 2, 3, 4, 5, 6, 8, 9
 
@@ -28,8 +29,9 @@ class PlateFault(Exception):
         self.kind, self.at = kind, at
 
 
-def usage(line):
-    return Refusal("usage: " + line, USAGE)
+def usage(program):
+    """The refusal of arguments: the usage line of the table of programs."""
+    return Refusal("usage: " + USAGES[program], USAGE)
 
 
 def job_refusal(fault):

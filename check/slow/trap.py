@@ -10,8 +10,6 @@ from .rule import rule_of
 from .words import NoCommand, named_plates, number
 from .writing import write_page
 
-USAGE = ("trap page [--workers N] [--band B] JOB REPORT NAME:IN:OUT ... | "
-         "trap sample NUMBER WIDTH HEIGHT WORKERS")
 OPTIONS = {"--workers": 64, "--band": 4096}
 
 
@@ -25,7 +23,7 @@ def run(words, outside):
         else:
             raise NoCommand()
     except NoCommand:
-        raise usage(USAGE)
+        raise usage("trap")
     command(outside)
 
 

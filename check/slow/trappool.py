@@ -13,7 +13,6 @@ from .rule import rule_of
 from .words import NoCommand, judge_distinct, named_plates, number
 from .writing import write_page
 
-USAGE = "trappool WORKERS LIST"
 LONGEST_LIST = 1048576
 MOST_LINES = 256
 MOST_SAMPLES_IN_ALL = 320000000
@@ -27,7 +26,7 @@ def run(words, outside):
             raise NoCommand()
         number(words[0], 1, 64)
     except NoCommand:
-        raise usage(USAGE)
+        raise usage("trappool")
     lines = lines_of(read_file(outside, words[1], "list")[:LONGEST_LIST + 1])
     replies = replies_of(outside, lines)
     refused = False

@@ -19,7 +19,6 @@ from .tokens import tokens_of
 from .words import NoCommand, named_plates, number
 from .writing import write_page
 
-USAGE = "traprun WORKERS BAND JOB REPORT NAME:IN:OUT ..."
 MOST_PAGES = 256
 
 
@@ -27,7 +26,7 @@ def run(words, outside):
     try:
         command = command_of(words)
     except NoCommand:
-        raise usage(USAGE)
+        raise usage("traprun")
     command(outside)
 
 

@@ -16,7 +16,6 @@ from .rule import rule_of
 from .words import MOST_PLATES, NoCommand, judge_distinct, judge_names, many
 from .writing import write_file, write_plates
 
-USAGE = "trapset traps JOB SET NAME:IN ... | trapset apply SET IN:OUT ..."
 LONGEST_LINE = 160
 
 NUMBER = rb"(0|[1-9][0-9]*)"
@@ -36,7 +35,7 @@ def run(words, outside):
         else:
             raise NoCommand()
     except NoCommand:
-        raise usage(USAGE)
+        raise usage("trapset")
     command(outside)
 
 

@@ -10,7 +10,6 @@ from .rule import rule_of
 from .words import NoCommand, named_plates, number
 from .writing import write_file, write_page, write_side_by_side
 
-USAGE = "trapsheet WORKERS JOB REPORT NAME:IN:OUT ..."
 LONGEST_STEP = 2048
 # A point in ten-thousandths, 72 of which are an inch; and how far from the origin a vertex may be.
 POINT, FARTHEST = 10000, 1000000 * 10000
@@ -21,7 +20,7 @@ def run(words, outside):
     try:
         job, report_name, names, inputs, outputs = command(words)
     except NoCommand:
-        raise usage(USAGE)
+        raise usage("trapsheet")
     judged = judged_job(read_job(outside, job))
     plates = [read_plate(outside, name, number, SHEET) for number, name in enumerate(inputs)]
     page = assemble(judged, plates, names, SHEET)

@@ -8,7 +8,7 @@ trap 'rm -rf "$out"' EXIT
 printf '<< /Enabled false >> settrapparams showpage' > "$out/job"
 count=0
 for plate in "$here"/*.pgm; do
-  "$here/../../trap" page "$out/job" "$out/report" "Ink:$plate:$out/plate"
+  "$here/../../bin/trap" page "$out/job" "$out/report" "Ink:$plate:$out/plate"
   python3 "$here/check.py" "$plate" "$out/plate" || { echo "examples/plates: $(basename "$plate") differs" >&2; exit 1; }
   count=$((count + 1))
 done

@@ -17,7 +17,7 @@ done
 # What is written does not depend on how many workers share the page, nor on the rows of a band.
 for shared in "--workers 4 --band 64" "--workers 3 --band 17"; do
   # shellcheck disable=SC2086
-  ../../trap page $shared poster.job "$out/report" "${words[@]}"
+  ../../bin/trap page $shared poster.job "$out/report" "${words[@]}"
   cmp "$out/report" expected/report
   for ink in "${inks[@]}"; do
     gzip -dc "expected/$ink.pgm.gz" | cmp - "$out/trapped/$ink.pgm"

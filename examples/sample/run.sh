@@ -7,7 +7,7 @@ out=out
 rm -rf "$out"
 mkdir "$out"
 for run in 1 1 7; do
-  ../../trap sample 7 2048 2048 "$run" > "$out/told"
+  ../../bin/trap sample 7 2048 2048 "$run" > "$out/told"
   if [ -e "$out/first" ]; then
     cmp "$out/first" "$out/told"
   else

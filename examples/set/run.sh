@@ -17,19 +17,19 @@ for ink in "${inks[@]}"; do
   traps+=("$ink:$out/plates/$ink.pgm")
   apply+=("$out/plates/$ink.pgm:$out/trapped/$ink.pgm")
 done
-../../trapset traps "$poster/poster.job" "$out/poster.set" "${traps[@]}"
+../../bin/trapset traps "$poster/poster.job" "$out/poster.set" "${traps[@]}"
 
 head -n 4 "$out/poster.set"
 echo "... $(grep -c '^run ' "$out/poster.set") runs, $(awk '$1 == "run" { n += $4 } END { print n }' "$out/poster.set") samples"
 
-../../trapset apply "$out/poster.set" "${apply[@]}"
+../../bin/trapset apply "$out/poster.set" "${apply[@]}"
 for ink in "${inks[@]}"; do
   gzip -dc "$poster/expected/$ink.pgm.gz" | cmp - "$out/trapped/$ink.pgm"
 done
 echo "examples/set: the set gives the plates that trap page writes"
 
 # The same set is for no other plates.
-if told=$(../../trapset apply "$out/poster.set" "${apply[0]}"); then
+if told=$(../../bin/trapset apply "$out/poster.set" "${apply[0]}"); then
   echo "examples/set: one plate took the set of four" >&2
   exit 1
 fi

@@ -311,10 +311,10 @@ def program(name, build=False):
             return os.path.abspath(os.path.join(where, name))
         raise Refusal(NO_TOOL, f"the program {name} is not there: no {os.path.join(where, name)}")
     built, released = os.path.join(top, "crates", name, "out", name), os.path.join(top, "out", "release", name)
-    in_repository = os.path.isdir(os.path.join(top, "crates", name)) and is_program(os.path.join(top, name))
+    in_repository = os.path.isdir(os.path.join(top, "crates", name)) and is_program(os.path.join(top, "bin", name))
     if in_repository and build:
         # Without words the launcher builds the program where need be, saying so, and the program ends at once with its usage.
-        done = run_tool([os.path.join(top, name)], stdout=subprocess.DEVNULL, stderr=None)
+        done = run_tool([os.path.join(top, "bin", name)], stdout=subprocess.DEVNULL, stderr=None)
         if done.returncode != USAGE:
             raise Refusal(NO_TOOL, f"the program {name} could not be built")
     if in_repository and not is_fresh(built, top) and not is_fresh(released, top):
@@ -327,10 +327,10 @@ def program(name, build=False):
         if place and is_program(place):
             return place
     if in_repository and is_program(built):
-        warn(f"the program {name} is older than its sources (./{name} builds it)")
+        warn(f"the program {name} is older than its sources (bin/{name} builds it)")
         return built
     if in_repository:
-        raise Refusal(NO_TOOL, f"the program {name} is not built yet: {os.path.join(top, name)} does it, which takes some twenty "
+        raise Refusal(NO_TOOL, f"the program {name} is not built yet: {os.path.join(top, 'bin', name)} does it, which takes some twenty "
                       f"minutes; or TRAP_BIN names the folder of one that is built")
     raise Refusal(NO_TOOL, f"the program {name} is not there")
 
@@ -351,10 +351,10 @@ def is_fresh(path, top):
 def memory_of(program):
     """The environment in which a program is run: it may ask for large pages of memory, which come in less time; and one with a shared
     table takes all memory from one heap, where what was freed serves again. What the user has set stands."""
-    usual = "glibc.malloc.hugetlb=1"
-    if os.path.basename(program) in ("trap", "traprun", "trappool"):
-        usual += ":glibc.malloc.mmap_max=0"
-    return {"GLIBC_TUNABLES": usual, **os.environ}
+    with open(os.path.join(os.path.dirname(HERE), "programs.txt"), encoding="utf-8") as table:
+        rows = [line.split() for line in table if line.strip() and not line.startswith("#")]
+    heap = {row[0]: row[2] for row in rows if row[2] != "-"}.get(os.path.basename(program))
+    return {**({"GLIBC_TUNABLES": heap} if heap else {}), **os.environ}
 
 
 def pictures():

@@ -25,7 +25,8 @@ C_LIBRARY = ctypes.CDLL(None, use_errno=True)
 # The repository, or the folder that the package is installed in: it holds the folders press and python.
 TOP = os.path.dirname(os.path.dirname(os.path.dirname(os.path.realpath(__file__))))
 PRESS = os.path.join(TOP, "press")
-USAGE_STATUS = 2
+# Finds or builds the programs of a repository.
+FINDER = os.path.join(TOP, "tools", "program")
 
 
 def missing_module(name: str) -> PressError:
@@ -121,54 +122,34 @@ def is_program(path: str) -> bool:
 
 def program(name: str, build: bool = False) -> str:
     """The path of a trapping program: in the folder TRAP_BIN if that is set; else in the repository, if it is
-    built there; else beside the installed commands; else on the PATH. A repository's launcher builds it only if
-    `build` asks for that, since it takes long."""
+    built or released there; else beside the installed commands; else on the PATH. What is not built is built only
+    if `build` asks for that, since it takes long."""
     where = os.environ.get("TRAP_BIN")
     if where:
         if is_program(os.path.join(where, name)):
             return os.path.abspath(os.path.join(where, name))
         raise PressError(Status.NO_TOOL, f"the program {name} is not there: no {os.path.join(where, name)}")
-    built, released = os.path.join(TOP, "crates", name, "out", name), os.path.join(TOP, "out", "release", name)
-    in_repository = os.path.isdir(os.path.join(TOP, "crates", name)) and is_program(os.path.join(TOP, name))
-    if in_repository:
-        make_ready(name, build, (built, released))
-    fresh = [place for place in (built, released) if in_repository and is_fresh(place)]
-    for place in (*fresh, os.path.join(os.path.dirname(os.path.dirname(TOP)), "bin", name), shutil.which(name)):
+    in_repository = is_program(FINDER)
+    found = in_repository and built_program(name, build)
+    for place in (found, os.path.join(TOP, "programs", name), shutil.which(name)):
         if place and is_program(place):
             return place
+    built = os.path.join(TOP, "crates", name, "out", name)
     if in_repository and is_program(built):
-        LOG.warning("the program %s is older than its sources (./%s builds it)", name, name)
+        LOG.warning("the program %s is older than its sources (bin/%s builds it)", name, name)
         return built
     if in_repository:
-        raise PressError(Status.NO_TOOL, f"the program {name} is not built yet: {os.path.join(TOP, name)} does it, "
+        raise PressError(Status.NO_TOOL, f"the program {name} is not built yet: {TOP}/bin/{name} does it, "
                          f"which takes some twenty minutes; or TRAP_BIN names the folder of one that is built")
     raise PressError(Status.NO_TOOL, f"the program {name} is not there")
 
 
-def make_ready(name: str, build: bool, places: tuple[str, str]) -> None:
-    """Builds a program of the repository if that is asked for, or takes it from the release if that is of these
-    very sources."""
-    if build:
-        # Without arguments the launcher builds the program, and the program ends at once with its usage.
-        done = run([os.path.join(TOP, name)], stdout=subprocess.DEVNULL, stderr=None)
-        if done.returncode != USAGE_STATUS:
-            raise PressError(Status.NO_TOOL, f"the program {name} could not be built")
-    release = os.path.join(TOP, "tools", "release")
-    if not any(is_fresh(place) for place in places) and is_program(release):
-        run([release, "--unpack", name])
-
-
-def is_fresh(path: str) -> bool:
-    """Whether a program of the repository is built, and not older than any text that it may be made of."""
-    if not is_program(path):
-        return False
-    made = os.path.getmtime(path)
-    for crate in os.scandir(os.path.join(TOP, "crates")):
-        for part in ("src", "specs", "proofs"):
-            for place, _, files in os.walk(os.path.join(crate.path, part)):
-                if any(os.path.getmtime(os.path.join(place, file)) > made for file in files):
-                    return False
-    return True
+def built_program(name: str, build: bool) -> str:
+    """The program as it is built in the repository, or released for the same sources; empty if there is none."""
+    done = run([FINDER, name] if build else [FINDER, "--there", name], stderr=None if build else subprocess.DEVNULL)
+    if build and done.returncode != 0:
+        raise PressError(Status.NO_TOOL, f"the program {name} could not be built")
+    return done.stdout.decode().strip()
 
 
 def has_program(name: str) -> bool:
@@ -180,9 +161,9 @@ def has_program(name: str) -> bool:
 
 
 def environment(path: str) -> Mapping[str, str]:
-    """The environment of a trapping program: it may ask for large pages of memory, and one with a shared table
-    takes all memory from one heap. The user's own setting is kept."""
-    usual = "glibc.malloc.hugetlb=1"
-    if os.path.basename(path) in ("trap", "traprun", "trappool"):
-        usual += ":glibc.malloc.mmap_max=0"
-    return {"GLIBC_TUNABLES": usual, **os.environ}
+    """The environment of a trapping program: the C library gets memory as the table of programs says. The user's
+    own setting is kept."""
+    with open(os.path.join(TOP, "programs.txt"), encoding="utf-8") as table:
+        rows = [line.split() for line in table if line.strip() and not line.startswith("#")]
+    heap = {row[0]: row[2] for row in rows if row[2] != "-"}.get(os.path.basename(path))
+    return {**({"GLIBC_TUNABLES": heap} if heap else {}), **os.environ}
