@@ -1,0 +1,279 @@
+# SPDX-License-Identifier: Apache-2.0
+"""Reads a valid job of docs/JOBS.md into plain values.
+
+Numbers stay in ten-thousandths, as the engine keeps them, so that nothing is rounded. The engine decides
+whether a job is valid and names its first fault; this module only wants to know what a valid job says.
+"""
+from __future__ import annotations
+
+import re
+from collections.abc import Iterator, Mapping
+from dataclasses import dataclass, field, replace
+from typing import Union
+
+SCALE = 10_000
+
+Point = tuple[int, int]
+Subpath = tuple[Point, ...]
+
+
+class JobSyntaxError(ValueError):
+    """The text is no valid job. `offset` is the byte at which reading stopped."""
+
+    def __init__(self, message: str, offset: int) -> None:
+        super().__init__(f"{message} at {offset}")
+        self.offset = offset
+
+
+@dataclass(frozen=True)
+class Parameters:
+    """Trapping parameters in ten-thousandths: TrapWidth in points, the others as in docs/JOBS.md."""
+
+    trap_width: int = 2_500
+    black_width: int = 10_000
+    black_color_limit: int = 9_500
+    black_density_limit: int = 16_000
+    step_limit: int = 2_500
+    sliding_trap_limit: int = 7_000
+    trap_color_scaling: int = 10_000
+    enabled: bool = True
+
+
+KEYS = {"TrapWidth": "trap_width", "BlackWidth": "black_width", "BlackColorLimit": "black_color_limit",
+        "BlackDensityLimit": "black_density_limit", "StepLimit": "step_limit",
+        "SlidingTrapLimit": "sliding_trap_limit", "TrapColorScaling": "trap_color_scaling", "Enabled": "enabled"}
+
+
+@dataclass(frozen=True)
+class JobInk:
+    """The details of one ink: its neutral density in ten-thousandths, and its ColorantType."""
+
+    density: int = SCALE
+    kind: str = "Normal"
+
+
+@dataclass(frozen=True)
+class JobZone:
+    """A trapping zone: parameters, step limits by ink, and closed subpaths in ten-thousandths of a point."""
+
+    parameters: Parameters
+    subpaths: tuple[Subpath, ...] = ()
+    step_limits: Mapping[str, int] = field(default_factory=dict)
+
+
+@dataclass(frozen=True)
+class Job:
+    """A job. Zone 0 is what no zone covers; `resolution` in dpi is 0 if the job sets none."""
+
+    resolution: int
+    zones: tuple[JobZone, ...]
+    inks: Mapping[str, JobInk]
+
+
+Value = Union[int, bool, None, str, bytes, list["Value"], dict[str, "Value"]]
+
+TOKEN = re.compile(
+    rb"(?P<gap>[\0\t\n\f\r ]+|%[^\n\r\f]*)|(?P<open><<|\[)|(?P<close>>>|\])|/(?P<name>[^\0\t\n\f\r ()<>\[\]{}/%]*)"
+    rb"|(?P<text>\()|<(?P<hex>[0-9A-Fa-f\0\t\n\f\r ]*)>|(?P<run>[^\0\t\n\f\r ()<>\[\]{}/%]+)")
+NUMBER = re.compile(rb"([+-]?)([0-9]*)(?:\.([0-9]*))?")
+CONSTANTS: Mapping[bytes, Value] = {b"true": True, b"false": False, b"null": None}
+
+
+def read_job(text: bytes) -> Job:
+    """What a valid job says. Raises JobSyntaxError if the notation or a statement is not that of a job."""
+    return _Reader().read(text)
+
+
+def ten_thousandths(spelling: bytes) -> int:
+    """A number as the engine keeps it: digits after the fourth decimal are cut, not rounded."""
+    found = NUMBER.fullmatch(spelling)
+    if not found or not (found[2] or found[3]):
+        raise ValueError(spelling.decode("latin-1"))
+    value = int(found[2] or 0) * SCALE + int((found[3] or b"")[:4].ljust(4, b"0"))
+    return -value if found[1] == b"-" else value
+
+
+def _end_of_text(text: bytes, at: int) -> int:
+    """The offset after a string in parentheses that begins at `at`."""
+    depth, place = 0, at
+    while place < len(text):
+        byte = text[place:place + 1]
+        depth += {b"(": 1, b")": -1}.get(byte, 0)
+        place += 2 if byte == b"\\" else 1
+        if depth == 0:
+            return place
+    raise JobSyntaxError("unfinished string", at)
+
+
+def _tokens(text: bytes) -> Iterator[tuple[str, bytes, int]]:
+    """Kind, bytes and offset of each token."""
+    place = 0
+    while place < len(text):
+        found = TOKEN.match(text, place)
+        if not found:
+            raise JobSyntaxError("no token", place)
+        kind, end = str(found.lastgroup), found.end()
+        if kind == "text":
+            end = _end_of_text(text, place)
+        if kind != "gap":
+            yield kind, found[kind] if kind in ("name", "run") else text[place:end], place
+        place = end
+
+
+def _closed(kind: bytes, items: list[Value], at: int) -> Value:
+    if kind == b"]":
+        return items
+    keys = items[0::2]
+    if len(items) % 2 or not all(isinstance(key, str) for key in keys):
+        raise JobSyntaxError("no dictionary", at)
+    return dict(zip([str(key) for key in keys], items[1::2]))
+
+
+class _Reader:
+    """The statements so far: what is in force, the path, and the zones."""
+
+    def __init__(self) -> None:
+        self.parameters = Parameters()
+        self.limits: dict[str, int] = {}
+        self.resolution, self.trapping = 0, True
+        self.inks: dict[str, JobInk] = {}
+        self.path: list[list[Point]] = []
+        self.current: Point | None = None
+        self.is_closed = False
+        self.zones: list[JobZone] = []
+
+    def read(self, text: bytes) -> Job:
+        """The job of a text."""
+        operands: list[Value] = []
+        brackets: list[list[Value]] = []
+        for kind, spelling, at in _tokens(text):
+            if kind == "open":
+                brackets.append([])
+                continue
+            if kind == "close":
+                if not brackets:
+                    raise JobSyntaxError("unmatched bracket", at)
+                value = _closed(spelling, brackets.pop(), at)
+            elif kind == "run" and spelling not in CONSTANTS and not spelling[:1] in b"+-.0123456789":
+                if brackets:
+                    raise JobSyntaxError("operator inside brackets", at)
+                self.statement(spelling.decode("latin-1"), operands, at)
+                operands = []
+                continue
+            else:
+                value = _plain(kind, spelling, at)
+            (brackets[-1] if brackets else operands).append(value)
+        return self.job()
+
+    def statement(self, operator: str, operands: list[Value], at: int) -> None:
+        """Carries out one statement."""
+        plain = {"newpath": self.newpath, "closepath": self.closepath, "settrapzone": self.settrapzone}
+        try:
+            if operator == "setpagedevice":
+                self.setpagedevice(_dictionary(*operands))
+            elif operator == "settrapparams":
+                self.settrapparams(_dictionary(*operands))
+            elif operator in ("moveto", "lineto", "rmoveto", "rlineto"):
+                x, y = operands
+                self.draw(operator, _number(x), _number(y))
+            elif operator != "showpage":
+                plain[operator]()
+        except (ValueError, TypeError, KeyError) as fault:
+            raise JobSyntaxError(f"{operator}: {fault}", at) from fault
+
+    def setpagedevice(self, entries: dict[str, Value]) -> None:
+        """Resolution, Trapping and the inks, as far as the dictionary names them."""
+        if "HWResolution" in entries:
+            across, _ = _array(entries["HWResolution"])
+            self.resolution = _number(across) // SCALE
+        if "Trapping" in entries:
+            self.trapping = bool(entries["Trapping"])
+        if "TrappingDetails" in entries:
+            details = _dictionary(entries["TrappingDetails"])
+            self.inks = {name: _ink(_dictionary(one))
+                         for name, one in _dictionary(details.get("ColorantDetails", {})).items()}
+
+    def settrapparams(self, entries: dict[str, Value]) -> None:
+        """Parameters and step limits of single inks, as far as the dictionary names them."""
+        numbers = {field_name: _number(entries[key]) for key, field_name in KEYS.items()
+                   if key in entries and key != "Enabled"}
+        enabled = bool(entries.get("Enabled", self.parameters.enabled))
+        self.parameters = replace(self.parameters, enabled=enabled, **numbers)
+        if "ColorantZoneDetails" in entries:
+            details = {name: _dictionary(one) for name, one in _dictionary(entries["ColorantZoneDetails"]).items()}
+            self.limits = {name: _number(one["StepLimit"]) for name, one in details.items() if "StepLimit" in one}
+
+    def draw(self, operator: str, x: int, y: int) -> None:
+        """One of the four drawing operators."""
+        if operator.startswith("r"):
+            if self.current is None:
+                raise ValueError("no current point")
+            x, y = self.current[0] + x, self.current[1] + y
+        if operator.endswith("moveto"):
+            self.path.append([])
+        elif self.current is None:
+            raise ValueError("no current point")
+        elif self.is_closed:
+            self.path.append([self.current])
+        self.path[-1].append((x, y))
+        self.current, self.is_closed = (x, y), False
+
+    def newpath(self) -> None:
+        """Empties the path."""
+        self.path, self.current, self.is_closed = [], None, False
+
+    def closepath(self) -> None:
+        """The current point is the subpath's first vertex again."""
+        if self.current is not None:
+            self.current, self.is_closed = self.path[-1][0], True
+
+    def settrapzone(self) -> None:
+        """The next zone, with what is in force."""
+        self.zones.append(JobZone(self.parameters, tuple(tuple(one) for one in self.path), dict(self.limits)))
+        self.newpath()
+
+    def job(self) -> Job:
+        """The job after its last statement."""
+        rest = JobZone(self.parameters, (), dict(self.limits))
+        if self.zones:
+            rest = replace(rest, parameters=replace(rest.parameters, enabled=False))
+        zones = [rest, *self.zones]
+        if not self.trapping:
+            zones = [replace(one, parameters=replace(one.parameters, enabled=False)) for one in zones]
+        return Job(self.resolution, tuple(zones), self.inks)
+
+
+def _dictionary(value: Value) -> dict[str, Value]:
+    if not isinstance(value, dict):
+        raise ValueError("a dictionary is expected")
+    return value
+
+
+def _array(value: Value) -> list[Value]:
+    if not isinstance(value, list):
+        raise ValueError("an array is expected")
+    return value
+
+
+def _number(value: Value) -> int:
+    if not isinstance(value, int) or isinstance(value, bool):
+        raise ValueError("a number is expected")
+    return value
+
+
+def _ink(details: dict[str, Value]) -> JobInk:
+    return JobInk(_number(details["NeutralDensity"]), str(details.get("ColorantType", "Normal")))
+
+
+def _plain(kind: str, spelling: bytes, at: int) -> Value:
+    """The value of one token that is no bracket and no operator."""
+    if kind == "name":
+        return spelling.decode("latin-1")
+    if kind in ("text", "hex"):
+        return spelling
+    if spelling in CONSTANTS:
+        return CONSTANTS[spelling]
+    try:
+        return ten_thousandths(spelling)
+    except ValueError as fault:
+        raise JobSyntaxError("no number", at) from fault
