@@ -79,6 +79,33 @@ NUMBER = re.compile(rb"([+-]?)([0-9]*)(?:\.([0-9]*))?")
 CONSTANTS: Mapping[bytes, Value] = {b"true": True, b"false": False, b"null": None}
 
 
+@dataclass(frozen=True)
+class Statement:
+    """An operator, and where its statement stands: from its first operand to the operator's last byte."""
+
+    operator: str
+    start: int
+    end: int
+
+
+def statements(text: bytes) -> Iterator[Statement]:
+    """The statements of a valid job, in their order."""
+    depth, start = 0, -1
+    for kind, spelling, at in _tokens(text):
+        start = at if start < 0 else start
+        depth += {"open": 1, "close": -1}.get(kind, 0)
+        if not depth and _is_operator(kind, spelling):
+            yield Statement(spelling.decode("latin-1"), start, at + len(spelling))
+            start = -1
+
+
+def in_force(text: bytes, offset: int) -> Parameters:
+    """The parameters in force after the statements before an offset."""
+    reader = _Reader()
+    reader.read(text[:offset])
+    return reader.parameters
+
+
 def read_job(text: bytes) -> Job:
     """What a valid job says. Raises JobSyntaxError if the notation or a statement is not that of a job."""
     return _Reader().read(text)
@@ -91,6 +118,10 @@ def ten_thousandths(spelling: bytes) -> int:
         raise ValueError(spelling.decode("latin-1"))
     value = int(found[2] or 0) * SCALE + int((found[3] or b"")[:4].ljust(4, b"0"))
     return -value if found[1] == b"-" else value
+
+
+def _is_operator(kind: str, spelling: bytes) -> bool:
+    return kind == "run" and spelling not in CONSTANTS and spelling[:1] not in b"+-.0123456789"
 
 
 def _end_of_text(text: bytes, at: int) -> int:
@@ -154,7 +185,7 @@ class _Reader:
                 if not brackets:
                     raise JobSyntaxError("unmatched bracket", at)
                 value = _closed(spelling, brackets.pop(), at)
-            elif kind == "run" and spelling not in CONSTANTS and not spelling[:1] in b"+-.0123456789":
+            elif _is_operator(kind, spelling):
                 if brackets:
                     raise JobSyntaxError("operator inside brackets", at)
                 self.statement(spelling.decode("latin-1"), operands, at)

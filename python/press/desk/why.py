@@ -89,7 +89,8 @@ class Window:
     """A part of a page: tints (plates × rows × columns, 0 is no ink), the inks' details, and the job."""
 
     def __init__(self, tints: Tints, maxval: int, inks: Sequence[str], job: Job, place: Place) -> None:
-        self.tints, self.maxval, self.names, self.job, self.place = tints.astype(np.int64), maxval, list(inks), job, place
+        self.tints, self.maxval, self.names = tints.astype(np.int64), maxval, list(inks)
+        self.job, self.place = job, place
         self.inks = [job.inks.get(name, JobInk()) for name in self.names]
         self.counting = [k for k, ink in enumerate(self.inks) if ink.kind not in KINDS_WITHOUT_DENSITY]
         self.spreading = [ink.kind in KINDS_THAT_SPREAD for ink in self.inks]
@@ -255,7 +256,7 @@ class _Trap:
     def is_within(self) -> bool:
         """Whether the edge is near enough: the trap width, times the black width at black, half if centred."""
         halves = 2 if self.is_centred else 1
-        return self.square * (36 * SCALE * SCALE * halves) ** 2 <= self.width ** 2
+        return bool(self.square * (36 * SCALE * SCALE * halves) ** 2 <= self.width ** 2)
 
     def is_apart(self) -> bool:
         """Whether one ink ends and another begins between the pixel and the edge's other side."""

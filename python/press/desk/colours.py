@@ -1,0 +1,99 @@
+# SPDX-License-Identifier: Apache-2.0
+"""Pictures of plates: inks printed over each other, the traps in their inks' colours, and PNG tiles.
+
+Colours are packed as the browser's canvas wants them: red, green, blue and opacity, from the lowest byte up.
+"""
+from __future__ import annotations
+
+import struct
+import zlib
+from collections.abc import Sequence
+
+import numpy as np
+from numpy.typing import NDArray
+
+Tints = NDArray[np.uint8]
+Pixels = NDArray[np.uint32]
+Mask = NDArray[np.bool_]
+
+OPAQUE = np.uint32(0xFF000000)
+PALEST, PALE_RANGE = 205, 50
+"""The gray of the page below its traps: from PALEST to white."""
+
+
+def packed(red: NDArray[np.uint32], green: NDArray[np.uint32], blue: NDArray[np.uint32]) -> Pixels:
+    """Colours as the canvas wants them."""
+    return red | green << np.uint32(8) | blue << np.uint32(16) | OPAQUE
+
+
+def packed_light(light: tuple[int, int, int]) -> np.uint32:
+    """One colour as the canvas wants it."""
+    return np.uint32(light[0] | light[1] << 8 | light[2] << 16) | OPAQUE
+
+
+class Inks:
+    """The colours of a page's inks: what light full ink lets through, as red, green and blue of 0 to 255."""
+
+    def __init__(self, lights: Sequence[tuple[int, int, int]], seen: Sequence[bool]) -> None:
+        self.lights, self.seen = list(lights), list(seen)
+        coverage = 1 - np.arange(256, dtype=np.float32) / 255
+        self.shares = [[1 - coverage * (1 - channel / 255) for channel in light] for light in self.lights]
+
+    def paint(self, planes: Sequence[Tints], shown: int) -> Pixels:
+        """The inks of the plates whose bit is set in `shown`, over each other; planes of any one shape."""
+        shape, flat = planes[0].shape, [np.ascontiguousarray(plane).ravel() for plane in planes]
+        used = [k for k, seen in enumerate(self.seen)
+                if seen and shown >> k & 1 and flat[k].size and flat[k].min() < 255]
+        starts = np.ones(flat[0].size, bool)
+        if starts.size:
+            starts[1:] = False
+        for k in used:
+            starts[1:] |= flat[k][1:] != flat[k][:-1]
+        at = np.flatnonzero(starts)
+        if 3 * at.size > starts.size:  # a photograph: equal pixels do not follow each other
+            at = np.arange(starts.size)
+        light = np.full((3, at.size), 255, np.float32)
+        for k in used:
+            tints = flat[k][at]
+            for channel in range(3):
+                light[channel] *= self.shares[k][channel].take(tints)
+        pixels = packed(*(light + np.float32(0.5)).astype(np.uint32))
+        if at.size < starts.size:
+            pixels = np.repeat(pixels, np.diff(at, append=starts.size))
+        return np.asarray(pixels.reshape(shape))
+
+    def paint_traps(self, before: Sequence[Tints], changed: Sequence[Mask | None], shown: int) -> Pixels:
+        """A pale page with each plate's changed pixels in its ink's colour."""
+        light = self.paint(before, shown).view(np.uint8).reshape(*before[0].shape, 4)[..., :3]
+        pale = (PALEST + light.mean(axis=-1, dtype=np.float32) * PALE_RANGE / 255).astype(np.uint32)
+        out = packed(pale, pale, pale)
+        for k, mask in enumerate(changed):
+            if mask is not None and shown >> k & 1:
+                out[mask] = packed_light(self.lights[k])
+        return out
+
+    def changes(self, before: Sequence[Tints], after: Sequence[Tints], shown: int) -> NDArray[np.uint32]:
+        """The pixels that traps change, for a browser that has the picture before: all places, then all colours."""
+        changed = np.zeros(before[0].shape, bool)
+        for k in range(len(before)):
+            if shown >> k & 1:
+                changed |= after[k] != before[k]
+        at = np.flatnonzero(changed)
+        colours = self.paint([plane.ravel()[at] for plane in after], shown)
+        return np.concatenate([at.astype(np.uint32), colours])
+
+
+def png(pixels: Pixels) -> bytes:
+    """A PNG without filters, which flat art does not need; a photograph is not compressed, since that takes longest."""
+    height, width = pixels.shape
+    is_flat = np.count_nonzero(pixels[:, 1:] != pixels[:, :-1]) * 3 <= pixels.size
+    rows = np.zeros((height, 1 + 3 * width), np.uint8)
+    channels = np.ascontiguousarray(pixels).view(np.uint8).reshape(height, width, 4)
+    rows[:, 1:] = channels[:, :, :3].reshape(height, 3 * width)
+    header = struct.pack(">IIBBBBB", width, height, 8, 2, 0, 0, 0)
+    return b"".join([b"\x89PNG\r\n\x1a\n", _chunk(b"IHDR", header),
+                     _chunk(b"IDAT", zlib.compress(rows.tobytes(), 1 if is_flat else 0)), _chunk(b"IEND", b"")])
+
+
+def _chunk(kind: bytes, data: bytes) -> bytes:
+    return struct.pack(">I", len(data)) + kind + data + struct.pack(">I", zlib.crc32(kind + data))
