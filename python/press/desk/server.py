@@ -1,0 +1,216 @@
+# SPDX-License-Identifier: Apache-2.0
+"""The web server of the trap editor: routes, and nothing that the other modules do.
+
+Ids are the only way to a job or a page: no name that a browser sends becomes part of a path.
+"""
+from __future__ import annotations
+
+import json
+from collections.abc import AsyncIterator, Awaitable, Callable
+from contextlib import asynccontextmanager
+from pathlib import Path
+from typing import Any
+
+import trapping
+from starlette.applications import Starlette
+from starlette.concurrency import run_in_threadpool
+from starlette.requests import Request
+from starlette.responses import FileResponse, JSONResponse, Response
+from starlette.routing import Mount, Route, WebSocketRoute
+from starlette.staticfiles import StaticFiles
+from starlette.types import ASGIApp
+
+from press.errors import PressError
+
+from .guard import Guard
+from .page import MODES, BadRequest, VersionConflict, View
+from .store import NoSuchThing, Store
+
+STATIC = Path(__file__).parent / "static"
+LEAFLET = Path("/usr/share/javascript/leaflet")
+MOST_BODY = 1 << 20
+MOST_LEVEL = 20
+
+Handler = Callable[[Request], Awaitable[Response]]
+
+
+def fault(status: int, text: str) -> JSONResponse:
+    """A refusal as browsers get it."""
+    return JSONResponse({"error": text}, status)
+
+
+def answers(handler: Handler) -> Handler:
+    """Turns what a handler raises into an answer with the right status."""
+    async def guarded(request: Request) -> Response:
+        try:
+            return await handler(request)
+        except NoSuchThing as missing:
+            return fault(404, str(missing))
+        except VersionConflict as conflict:
+            return fault(409, str(conflict))
+        except (BadRequest, json.JSONDecodeError, UnicodeDecodeError) as bad:
+            return fault(400, str(bad))
+        except (trapping.Refusal, PressError) as refused:
+            return fault(422, str(refused))
+    return guarded
+
+
+async def json_body(request: Request) -> dict[str, Any]:
+    """The JSON object of a request, of a bounded size."""
+    body = b""
+    async for part in request.stream():
+        body += part
+        if len(body) > MOST_BODY:
+            raise BadRequest(f"the request has more than {MOST_BODY} bytes")
+    said = json.loads(body or b"{}")
+    if not isinstance(said, dict):
+        raise BadRequest("the request is no JSON object")
+    return said
+
+
+class Server:
+    """The routes over a store of jobs."""
+
+    def __init__(self, store: Store) -> None:
+        self.store = store
+
+    # Jobs
+
+    async def jobs(self, _: Request) -> Response:
+        """All jobs with their pages."""
+        return JSONResponse(await run_in_threadpool(self.store.listing))
+
+    async def upload(self, request: Request) -> Response:
+        """A file as the request's body becomes a job."""
+        upload = self.store.begin_upload(request.query_params.get("name", ""))
+        try:
+            async for part in request.stream():
+                upload.write(part)
+            return JSONResponse({"id": upload.finish()})
+        finally:
+            upload.close()
+
+    async def cancel(self, request: Request) -> Response:
+        """Stops a job that runs."""
+        await run_in_threadpool(self.store.cancel, request.path_params["job"])
+        return JSONResponse({})
+
+    # Pages
+
+    async def page(self, request: Request) -> Response:
+        """A page, its job and its edits."""
+        return JSONResponse(await run_in_threadpool(self.store.page_state, request.path_params["page"]))
+
+    async def edits(self, request: Request) -> Response:
+        """New edits of a page, made on a version of it."""
+        said = await json_body(request)
+        return await self._changed(request, lambda page: page.change(int(said["version"]), said["edits"]))
+
+    async def undo(self, request: Request) -> Response:
+        """The job before the last change."""
+        said = await json_body(request)
+        return await self._changed(request, lambda page: page.step(int(said["version"]), True))
+
+    async def redo(self, request: Request) -> Response:
+        """The job after the last change that was undone."""
+        said = await json_body(request)
+        return await self._changed(request, lambda page: page.step(int(said["version"]), False))
+
+    async def _changed(self, request: Request, change: Callable[[Any], None]) -> Response:
+        key = request.path_params["page"]
+
+        def work() -> dict[str, Any]:
+            try:
+                change(self.store.page(key))
+            except (KeyError, TypeError) as bad:
+                raise BadRequest(f"the request lacks {bad}") from bad
+            self.store.page_changed(key)
+            return self.store.page_state(key)
+        return JSONResponse(await run_in_threadpool(work))
+
+    async def tile(self, request: Request) -> Response:
+        """A tile of a page. Its address has the page's version, so browsers keep it for ever."""
+        at = request.path_params
+        if at["mode"] not in MODES or at["level"] > MOST_LEVEL:
+            raise NoSuchThing("no such tile")
+        page = self.store.page(at["page"])
+        body = await run_in_threadpool(page.tile, at["mode"], at["inks"], at["level"], (at["x"], at["y"]))
+        if body is None:
+            raise NoSuchThing("no such tile")
+        return Response(body, 200, {"cache-control": "private, max-age=31536000, immutable"}, "image/png")
+
+    async def view(self, request: Request) -> Response:
+        """A part of a page at 1:1, as the browser's canvas takes it."""
+        said = await json_body(request)
+        try:
+            numbers = [int(said[name]) for name in ("left", "top", "width", "height")]
+            shifts = [(int(x), int(y)) for x, y in said["shifts"]] if said.get("shifts") else None
+            view = View(*numbers, str(said["mode"]), int(said["inks"]), shifts, bool(said.get("delta")))
+        except (KeyError, TypeError, ValueError) as bad:
+            raise BadRequest(f"this is no view: {bad}") from bad
+        page = self.store.page(request.path_params["page"])
+        pixels = await run_in_threadpool(page.view, view)
+        return Response(pixels.tobytes(), 200, {"cache-control": "no-store"}, "application/octet-stream")
+
+    async def why(self, request: Request) -> Response:
+        """Why a pixel is trapped, or is not."""
+        page, x, y = self.store.page(request.path_params["page"]), request.path_params["x"], request.path_params["y"]
+        if x >= page.width or y >= page.height:
+            raise NoSuchThing("no such pixel")
+        return JSONResponse(await run_in_threadpool(page.why, x, y))
+
+    async def approval(self, request: Request) -> Response:
+        """Approves a page, or rejects it."""
+        said = await json_body(request)
+        key = request.path_params["page"]
+        await run_in_threadpool(self.store.approve, key, said)
+        return JSONResponse(await run_in_threadpool(self.store.page_state, key))
+
+    async def notes(self, request: Request) -> Response:
+        """Adds a note on a place of a page."""
+        said = await json_body(request)
+        key = request.path_params["page"]
+        await run_in_threadpool(self.store.add_note, key, said)
+        return JSONResponse(await run_in_threadpool(self.store.page_state, key))
+
+    async def download(self, request: Request) -> Response:
+        """One of a page's files, or several as an archive."""
+        path, name = await run_in_threadpool(self.store.download, request.path_params["page"],
+                                             request.path_params["kind"])
+        return FileResponse(path, filename=name, headers={"cache-control": "no-store"})
+
+    def routes(self) -> list[Route | WebSocketRoute | Mount]:
+        """All addresses of the server."""
+        page = "/api/pages/{page:str}"
+        post = ["POST"]
+        return [
+            Route("/", index), Route("/api/jobs", answers(self.jobs)),
+            Route("/api/jobs", answers(self.upload), methods=post),
+            Route("/api/jobs/{job:str}/cancel", answers(self.cancel), methods=post),
+            Route(page, answers(self.page)), Route(f"{page}/edits", answers(self.edits), methods=post),
+            Route(f"{page}/undo", answers(self.undo), methods=post),
+            Route(f"{page}/redo", answers(self.redo), methods=post),
+            Route(page + "/tiles/{mode}/{version}/{inks:int}/{level:int}/{x:int}/{y:int}", answers(self.tile)),
+            Route(f"{page}/view", answers(self.view), methods=post),
+            Route(page + "/why/{x:int}/{y:int}", answers(self.why)),
+            Route(f"{page}/approval", answers(self.approval), methods=post),
+            Route(f"{page}/notes", answers(self.notes), methods=post),
+            Route(page + "/download/{kind}", answers(self.download)),
+            WebSocketRoute("/api/events", self.store.events.serve),
+            Mount("/leaflet", StaticFiles(directory=LEAFLET)), Mount("/static", StaticFiles(directory=STATIC))]
+
+
+async def index(_: Request) -> Response:
+    """The app."""
+    return FileResponse(STATIC / "index.html", headers={"cache-control": "no-cache"})
+
+
+def application(store: Store, hosts: frozenset[str], token: str | None = None) -> ASGIApp:
+    """The server's application, behind its guard."""
+    @asynccontextmanager
+    async def lifespan(_: Starlette) -> AsyncIterator[None]:
+        store.events.start()
+        yield
+        store.events.stop()
+        await run_in_threadpool(store.close)
+    return Guard(Starlette(routes=Server(store).routes(), lifespan=lifespan), hosts, token)

@@ -1,0 +1,287 @@
+// SPDX-License-Identifier: Apache-2.0
+// The app: jobs and pages, the picture, edits with undo, and the keyboard.
+import { Conflict, get, listen, send } from './api.js';
+import { Drawing, drawZones } from './drawing.js';
+import { showJobs } from './jobs.js';
+import { byId, showPanels, showWhy } from './panels.js';
+import { PageView, L } from './view.js';
+
+/** What the app holds: the jobs, the page as the server last described it, and what waits to be sent. */
+export const app = {
+  /** @type {any[]} */ jobs: [],
+  /** @type {any} */ page: null,
+  mode: 'after',
+  shownInks: 0xffff,
+  chosenZone: -1,
+  /** @type {any} */ waiting: null,
+  isSending: false,
+  ready: false,
+};
+
+/** @param {string} text @param {boolean} [isAlert] */
+export function say(text, isAlert = false) {
+  byId('status').textContent = text;
+  byId('status').classList.toggle('alert', isAlert);
+}
+
+const view = new PageView(byId('map'), { click: (x, y) => { if (!drawing.tool) ask(x, y); }, fault: (text) => say(text, true) });
+const other = new PageView(byId('other'));
+const zoneLayer = L.layerGroup().addTo(view.map), markLayer = L.layerGroup().addTo(view.map);
+const drawing = new Drawing(view, (points) => edit((edits) => {
+  edits.zones.push({ name: `Zone ${edits.zones.length + 1}`, points, settings: {}, overImages: false });
+  app.chosenZone = edits.zones.length - 1;
+}));
+Object.assign(window, { desk: { app, view, other } });
+
+// Pages
+
+/** @param {string} id */
+export async function openPage(id) {
+  const page = await get(`/api/pages/${id}`);
+  const isOther = !app.page || app.page.id !== page.id;
+  app.page = page;
+  if (isOther) {
+    app.chosenZone = -1;
+    app.waiting = null;
+    markLayer.clearLayers();
+    byId('why').textContent = 'Click a pixel, or press Enter with the page in focus for the middle of the view.';
+  }
+  view.open(page);
+  if (!byId('other').hidden) other.open({ ...page });
+  await view.show(app.mode, app.shownInks);
+  showPage();
+}
+
+/** Everything around the picture. */
+function showPage() {
+  const { page } = app;
+  drawZones(zoneLayer, page, app.chosenZone, (corner, point) => edit((edits) => { edits.zones[app.chosenZone].points[corner] = point; }));
+  showPanels(app, { edit, choose, setInks, setShift, goTo, approve, addNote });
+  const undo = /** @type {HTMLButtonElement} */ (byId('undo')), redo = /** @type {HTMLButtonElement} */ (byId('redo'));
+  undo.disabled = !page.canUndo;
+  redo.disabled = !page.canRedo;
+  /** @type {HTMLSelectElement} */ (byId('page')).value = page.id;
+}
+
+/** @param {number} zone */
+function choose(zone) {
+  app.chosenZone = app.chosenZone === zone ? -1 : zone;
+  showPage();
+}
+
+/** @param {number} shown */
+function setInks(shown) {
+  app.shownInks = shown;
+  view.show(app.mode, shown);
+  if (!byId('other').hidden) other.show(other.mode, shown);
+}
+
+/** Moves one plate, in whole pixels. @param {number} ink @param {number} axis @param {number} pixels */
+function setShift(ink, axis, pixels) {
+  view.shifts[ink][axis] = pixels;
+  if (view.map.getZoom() < 0) view.map.setZoom(0);
+  if (view.needsLive()) view.look(); else view.hideLive();
+}
+
+/** @param {number[]} place in pixels: x, y and perhaps width and height */
+function goTo([x, y, width = 0, height = 0]) {
+  if (width && height) view.map.fitBounds([[y, x], [y + height, x + width]]);
+  else view.map.setView([y, x], 2);
+}
+
+// Edits: one request at a time; of those that wait the last one counts.
+
+/** @param {(edits: any) => void} change */
+function edit(change) {
+  const edits = structuredClone(app.waiting || app.page.edits);
+  change(edits);
+  if (JSON.stringify(edits) === JSON.stringify(app.waiting || app.page.edits)) return;
+  app.waiting = edits;
+  view.changedAt = view.changedAt || performance.now();
+  sendEdits();
+}
+
+async function sendEdits() {
+  if (app.isSending || !app.waiting) return;
+  app.isSending = true;
+  const edits = app.waiting;
+  app.waiting = null;
+  try {
+    const answer = await send(`/api/pages/${app.page.id}/edits`, { version: app.page.version, edits });
+    Object.assign(app.page, await answer.json());
+    say(`version ${app.page.version}`);
+    if (view.needsLive()) view.look();
+    showPage();
+  } catch (fault) {
+    if (fault instanceof Conflict) await conflict(edits);
+    else { say(String(fault instanceof Error ? fault.message : fault), true); showPage(); }
+  } finally {
+    app.isSending = false;
+    if (app.waiting) sendEdits();
+  }
+}
+
+/** Another browser changed the job first: nothing is lost, and the change can be made on the newer version. @param {any} edits */
+async function conflict(edits) {
+  await openPage(app.page.id);
+  say('Not saved: another window changed this page first.', true);
+  const again = Object.assign(document.createElement('button'), { type: 'button', textContent: 'Replace it by mine' });
+  again.onclick = () => { app.waiting = edits; sendEdits(); };
+  byId('status').append(' ', again);
+}
+
+/** @param {'undo' | 'redo'} which */
+async function step(which) {
+  if (!app.page || !(which === 'undo' ? app.page.canUndo : app.page.canRedo)) return;
+  try {
+    const answer = await send(`/api/pages/${app.page.id}/${which}`, { version: app.page.version });
+    Object.assign(app.page, await answer.json());
+    app.chosenZone = Math.min(app.chosenZone, app.page.edits.zones.length - 1);
+    if (view.needsLive()) view.look();
+    showPage();
+  } catch (fault) { say(String(fault instanceof Error ? fault.message : fault), true); }
+}
+
+// Questions, notes, approval
+
+/** @param {number} x @param {number} y */
+async function ask(x, y) {
+  const { page } = app;
+  if (!page || x < 0 || y < 0 || x >= page.width || y >= page.height) return;
+  const answer = await get(`/api/pages/${page.id}/why/${x}/${y}`);
+  markLayer.clearLayers();
+  L.rectangle([[y, x], [y + 1, x + 1]], { color: '#000', weight: 2, fill: false, interactive: false }).addTo(markLayer);
+  if (answer.edge) {
+    const [[ax, ay], [bx, by]] = answer.edge.pixels, line = ax === bx ? [[by, bx], [by, bx + 1]] : [[by, bx], [by + 1, bx]];
+    L.polyline(line, { color: '#c2005b', weight: 4, interactive: false }).addTo(markLayer);
+  }
+  showWhy(page, answer);
+  app.page.asked = [x, y];
+}
+
+/** @param {any} body */
+async function approve(body) {
+  Object.assign(app.page, await (await send(`/api/pages/${app.page.id}/approval`, { ...body, version: app.page.version })).json());
+  showPage();
+}
+
+/** @param {string} text */
+async function addNote(text) {
+  const place = app.page.asked || (({ lng, lat }) => [Math.round(lng), Math.round(lat)])(view.map.getCenter());
+  Object.assign(app.page, await (await send(`/api/pages/${app.page.id}/notes`, { text, place })).json());
+  showPage();
+}
+
+// Events of the server
+
+/** @param {any} event */
+async function heard(event) {
+  if (event.kind === 'jobs' || event.kind === 'reconnect') {
+    app.jobs = await get('/api/jobs').catch(() => app.jobs);
+    showJobs(app, openPage);
+    if (!app.page && app.jobs.some((job) => job.pages.some((/** @type {any} */ page) => page.id))) await openFirst();
+  }
+  if (!app.page || (event.page && event.page !== app.page.id)) return;
+  if (event.kind === 'fault') say(event.text, true);
+  if (event.kind === 'progress') say(event.text);
+  if (event.kind === 'changed' && event.version !== app.page.version && !app.isSending) {
+    await openPage(app.page.id);
+    say(`Changed in another window: version ${event.version}`);
+  }
+  if (event.kind === 'shown' || event.kind === 'reconnect') {
+    const page = await get(`/api/pages/${app.page.id}`);
+    const isNewest = page.version >= app.page.version;
+    Object.assign(app.page, isNewest ? page : { shown: page.shown, epoch: page.epoch });
+    await view.refresh();
+    if (!view.needsLive()) view.hideLive();
+    if (isNewest) showPage();
+    if (event.text) say(event.text);
+  }
+}
+
+async function openFirst() {
+  for (const job of app.jobs) for (const page of job.pages) if (page.id) { await openPage(page.id); return; }
+}
+
+// Controls
+
+/** @param {string} mode */
+function setMode(mode) {
+  app.mode = mode;
+  document.querySelectorAll('[data-mode]').forEach((one) => one.setAttribute('aria-pressed', String(/** @type {HTMLElement} */ (one).dataset.mode === mode)));
+  if (app.page) view.show(mode, app.shownInks);
+}
+
+const zooms = { fit: () => view.fit(), in: () => view.map.zoomIn(1), out: () => view.map.zoomOut(1), one: () => view.map.setZoom(0) };
+
+function toggleCompare() {
+  const element = byId('other'), isOn = element.hidden;
+  element.hidden = !isOn;
+  byId('compare').setAttribute('aria-pressed', String(isOn));
+  view.map.invalidateSize();
+  if (!isOn || !app.page) return;
+  other.map.invalidateSize();
+  other.mode = 'before';
+  other.shownInks = app.shownInks;
+  other.open({ ...app.page });
+  other.map.setView(view.map.getCenter(), view.map.getZoom(), { animate: false });
+}
+
+/** Both pictures show the same place. @param {PageView} from @param {PageView} to */
+function follow(from, to) {
+  from.map.on('move', () => {
+    if (byId('other').hidden || !to.page || document.activeElement === to.element) return;
+    to.map.setView(from.map.getCenter(), from.map.getZoom(), { animate: false });
+  });
+}
+follow(view, other);
+
+document.querySelectorAll('[data-mode]').forEach((one) => one.addEventListener('click', () => setMode(/** @type {HTMLElement} */ (one).dataset.mode || '')));
+document.querySelectorAll('[data-zoom]').forEach((one) => one.addEventListener('click', () => zooms[/** @type {keyof typeof zooms} */ (/** @type {HTMLElement} */ (one).dataset.zoom)]()));
+byId('compare').onclick = toggleCompare;
+byId('undo').onclick = () => step('undo');
+byId('redo').onclick = () => step('redo');
+byId('rectangle').onclick = () => drawing.start('rectangle');
+byId('polygon').onclick = () => drawing.start('polygon');
+byId('page').onchange = (event) => openPage(/** @type {HTMLSelectElement} */ (event.target).value);
+byId('help').onclick = () => showKeys();
+
+/** @type {[string, string, () => void][]} */
+const KEYS = [
+  ['1', 'picture before trapping', () => setMode('before')], ['2', 'picture after trapping', () => setMode('after')],
+  ['3', "traps in their inks' colours", () => setMode('traps')], ['0', 'whole page', () => zooms.fit()], ['9', '1:1', () => zooms.one()],
+  ['c', 'compare side by side', toggleCompare], ['r', 'draw a rectangular zone', () => drawing.start('rectangle')],
+  ['p', 'draw a polygonal zone', () => drawing.start('polygon')], ['u', 'undo', () => step('undo')], ['U', 'redo', () => step('redo')],
+  ['?', 'these keys', () => showKeys()],
+];
+
+function showKeys() {
+  const dialog = /** @type {HTMLDialogElement} */ (byId('keys')), list = document.createElement('dl');
+  for (const [key, what] of [...KEYS, ['+ −', 'zoom'], ['arrows', 'move the page'], ['Enter', 'why: the pixel in the middle; ends a polygon'], ['Esc', 'stop drawing']]) {
+    const term = document.createElement('dt'), key_ = document.createElement('kbd'), text = document.createElement('dd');
+    key_.textContent = key;
+    term.append(key_);
+    text.textContent = what;
+    list.append(term, text);
+  }
+  const close = Object.assign(document.createElement('button'), { type: 'button', textContent: 'Close' });
+  close.onclick = () => dialog.close();
+  dialog.replaceChildren(list, close);
+  dialog.showModal();
+}
+
+document.addEventListener('keydown', (event) => {
+  const element = /** @type {HTMLElement} */ (event.target);
+  if (event.ctrlKey && event.key.toLowerCase() === 'z') { event.preventDefault(); step(event.shiftKey ? 'redo' : 'undo'); return; }
+  if (event.ctrlKey || event.altKey || event.metaKey || /^(INPUT|SELECT|TEXTAREA)$/.test(element.tagName)) return;
+  if (event.key === 'Escape') drawing.stop();
+  if (event.key === 'Enter' && element.classList.contains('map')) {
+    const { lng, lat } = view.map.getCenter();
+    if (drawing.tool) drawing.finish(); else ask(Math.floor(lng), Math.floor(lat));
+  }
+  KEYS.find(([key]) => key === event.key)?.[2]();
+});
+
+listen((event) => { heard(event).catch((fault) => say(String(fault.message || fault), true)); });
+await heard({ kind: 'jobs' });
+app.ready = true;

@@ -1,0 +1,179 @@
+// SPDX-License-Identifier: Apache-2.0
+// The panels beside the picture: plates, settings, zones, why, findings, approval, downloads.
+
+/** @param {string} id @returns {HTMLElement} */
+export const byId = (id) => /** @type {HTMLElement} */ (document.getElementById(id));
+
+/**
+ * @param {string} tag @param {Record<string, any>} [properties] @param {(Node | string)[]} [children]
+ * @returns {any}
+ */
+export function element(tag, properties = {}, children = []) {
+  const made = Object.assign(document.createElement(tag), properties);
+  made.append(...children);
+  return made;
+}
+
+const percent = (/** @type {number} */ share) => `${Math.round(share * 100)} %`;
+const SCALE = 10000;
+
+/** Settings of `settrapparams`: key, label, least, most, step, unit. Values travel in ten-thousandths, as the job keeps them. */
+const SETTINGS = /** @type {[string, string, number, number, number, string][]} */ ([
+  ['TrapWidth', 'Trap width', 0.05, 4, 0.05, 'pt'], ['BlackWidth', 'Width at black', 0.5, 4, 0.1, 'times'],
+  ['StepLimit', 'Step limit', 0, 1, 0.05, ''], ['SlidingTrapLimit', 'Sliding trap limit', 0, 1, 0.05, ''],
+  ['TrapColorScaling', 'Trap colour scaling', 0, 1, 0.05, ''],
+]);
+
+/** @param {any} app @param {any} on */
+export function showPanels(app, on) {
+  const focused = document.activeElement?.id;
+  showInks(app, on);
+  showSettings(app.page, on);
+  showZones(app, on);
+  showFindings(app.page, on);
+  showApproval(app.page, on);
+  showDownloads(app.page);
+  if (focused) byId(focused)?.focus();
+}
+
+/** @param {any} app @param {any} on */
+function showInks(app, on) {
+  const { page } = app, perMillimetre = page.dpi / 25.4;
+  const head = element('tr', {}, ['Plate', 'Off, across', 'Off, down'].map((text) => element('th', { textContent: text, scope: 'col' })));
+  const rows = page.inks.map((/** @type {any} */ ink, /** @type {number} */ k) => {
+    const box = element('input', { type: 'checkbox', checked: !!(app.shownInks >> k & 1), id: `ink-${k}` });
+    box.onchange = () => on.setInks(box.checked ? app.shownInks | 1 << k : app.shownInks & ~(1 << k));
+    const chip = element('span', { className: 'chip' });
+    chip.style.background = `rgb(${ink.light})`;
+    const label = element('label', { htmlFor: `ink-${k}`, title: `density ${ink.density}, ${ink.kind}${ink.coverage === undefined ? '' : `, coverage ${percent(ink.coverage)}`}` }, [chip, ink.title]);
+    const shift = (/** @type {number} */ axis) => {
+      const slider = element('input', { type: 'range', min: -0.4, max: 0.4, step: 0.02, id: `shift-${k}-${axis}`, value: 0 });
+      slider.setAttribute('aria-label', `Misregistration of ${ink.title}, ${axis ? 'down' : 'across'}, in millimetres`);
+      slider.value = String((app.shifts?.[k]?.[axis] || 0) / perMillimetre);
+      slider.oninput = () => {
+        app.shifts = app.shifts || page.inks.map(() => [0, 0]);
+        app.shifts[k][axis] = Math.round(Number(slider.value) * perMillimetre);
+        slider.title = `${slider.value} mm`;
+        on.setShift(k, axis, app.shifts[k][axis]);
+      };
+      return element('td', {}, [slider]);
+    };
+    return element('tr', {}, [element('td', {}, [box, ' ', label]), shift(0), shift(1)]);
+  });
+  byId('inks').replaceChildren(head, ...rows);
+}
+
+/** A number and a slider for one value. @param {string} id @param {any[]} setting @param {number} value @param {(value: number) => void} set */
+function control(id, [, label, least, most, step, unit], value, set) {
+  const shown = (value / SCALE).toFixed(2).replace(/0$/, '');
+  const number = element('input', { type: 'number', id, min: least, max: most, step, value: shown });
+  const slider = element('input', { type: 'range', id: `${id}-slider`, min: least, max: most, step, value: shown });
+  slider.setAttribute('aria-label', `${label}${unit ? `, ${unit}` : ''}`);
+  const change = (/** @type {any} */ from) => { const next = Number(from.value); if (from.value !== '' && next >= least) set(Math.round(next * SCALE)); };
+  slider.oninput = () => { number.value = slider.value; change(slider); };
+  number.onchange = () => change(number);
+  return element('div', { className: 'setting' }, [element('label', { htmlFor: id, textContent: unit ? `${label} (${unit})` : label }), number, slider]);
+}
+
+/** @param {any} page @param {any} on */
+function showSettings(page, on) {
+  byId('settings').replaceChildren(...SETTINGS.map((setting) => control(`set-${setting[0]}`, setting, page.settings[setting[0]],
+    (value) => on.edit((/** @type {any} */ edits) => { edits.settings[setting[0]] = value; }))));
+}
+
+/** @param {any} app @param {any} on */
+function showZones(app, on) {
+  const { page } = app;
+  byId('zones').replaceChildren(...page.edits.zones.map((/** @type {any} */ zone, /** @type {number} */ k) => {
+    const change = (/** @type {(zone: any) => void} */ make) => on.edit((/** @type {any} */ edits) => make(edits.zones[k]));
+    const name = element('input', { type: 'text', value: zone.name, id: `zone-${k}-name` });
+    name.setAttribute('aria-label', `Name of zone ${k + 1}`);
+    name.onchange = () => change((one) => { one.name = name.value; });
+    const choose = element('button', { type: 'button', textContent: app.chosenZone === k ? 'Done' : 'Corners' });
+    choose.onclick = () => on.choose(k);
+    const remove = element('button', { type: 'button', textContent: 'Delete' });
+    remove.onclick = () => on.edit((/** @type {any} */ edits) => { edits.zones.splice(k, 1); });
+    const enabled = zone.settings.Enabled ?? page.settings.Enabled;
+    const tick = (/** @type {string} */ id, /** @type {string} */ text, /** @type {boolean} */ value, /** @type {(value: boolean) => void} */ set) => {
+      const box = element('input', { type: 'checkbox', checked: value, id: `zone-${k}-${id}` });
+      box.onchange = () => set(box.checked);
+      return element('label', { htmlFor: `zone-${k}-${id}` }, [box, ` ${text}`]);
+    };
+    const parts = [name, element('div', { className: 'row' }, [tick('on', 'traps', enabled, (value) => change((one) => { one.settings.Enabled = value; })),
+      tick('over', 'over images too', zone.overImages, (value) => change((one) => { one.overImages = value; }))])];
+    if (enabled) {
+      parts.push(control(`zone-${k}-width`, SETTINGS[0], zone.settings.TrapWidth ?? page.settings.TrapWidth,
+        (value) => change((one) => { one.settings.TrapWidth = value; })));
+    }
+    if (app.chosenZone === k) parts.push(corners(page, zone, k, change));
+    parts.push(element('div', { className: 'row' }, [choose, remove]));
+    return element('li', { className: 'zone' }, parts);
+  }));
+}
+
+/** Corners as numbers, in millimetres from the page's top left corner, for those who do not drag. @param {any} page @param {any} zone @param {number} k @param {any} change */
+function corners(page, zone, k, change) {
+  const perMillimetre = page.dpi / 25.4;
+  return element('div', {}, zone.points.map((/** @type {number[]} */ point, /** @type {number} */ c) => element('div', { className: 'row' }, [0, 1].map((axis) => {
+    const box = element('input', { type: 'number', step: 0.1, id: `zone-${k}-${c}-${axis}`, value: (point[axis] / perMillimetre).toFixed(2) });
+    box.setAttribute('aria-label', `Corner ${c + 1}, ${axis ? 'from the top' : 'from the left'}, in millimetres`);
+    box.onchange = () => change((/** @type {any} */ one) => { one.points[c][axis] = Math.round(Number(box.value) * perMillimetre); });
+    return box;
+  }))));
+}
+
+/** @param {any} page @param {any} on */
+function showFindings(page, on) {
+  const findings = page.findings || [];
+  byId('findings').replaceChildren(...(findings.length ? findings.map((/** @type {any} */ finding) => {
+    const text = `${finding.level}: ${finding.text}`;
+    if (!finding.place) return element('li', { textContent: text });
+    const button = element('button', { type: 'button', textContent: text });
+    button.onclick = () => on.goTo(finding.place);
+    return element('li', {}, [button]);
+  }) : [element('li', { className: 'dim', textContent: 'Preflight found nothing to report.' })]));
+}
+
+/** @param {any} page @param {any} on */
+function showApproval(page, on) {
+  const { approval, notes } = page;
+  const said = !approval ? 'Not approved yet.' : `${approval.verdict} by ${approval.name}, ${approval.time}${approval.current ? '' : ': out of date, the page has changed since'}`;
+  const name = element('input', { type: 'text', id: 'approver', value: localStorage.getItem('approver') || '' });
+  const note = element('textarea', { id: 'note', rows: 2 });
+  const give = (/** @type {string} */ verdict) => { localStorage.setItem('approver', name.value); on.approve({ verdict, name: name.value }); };
+  const yes = element('button', { type: 'button', textContent: 'Approve' }), no = element('button', { type: 'button', textContent: 'Reject' });
+  yes.onclick = () => give('approved');
+  no.onclick = () => give('rejected');
+  const add = element('button', { type: 'button', textContent: 'Add a note here' });
+  add.onclick = () => { if (note.value.trim()) on.addNote(note.value.trim()); };
+  const list = (notes || []).map((/** @type {any} */ one) => {
+    const go = element('button', { type: 'button', textContent: one.text });
+    go.onclick = () => on.goTo(one.place);
+    return element('li', {}, [go, element('span', { className: 'dim', textContent: ` ${one.time}` })]);
+  });
+  byId('approval').replaceChildren(element('p', { textContent: said, className: approval?.current && approval.verdict === 'approved' ? 'approved' : '' }),
+    element('label', { htmlFor: 'approver', textContent: 'Your name' }), name, element('div', { className: 'row' }, [yes, no]),
+    element('label', { htmlFor: 'note', textContent: 'Note on the pixel that was clicked last' }), note, add, element('ul', {}, list));
+}
+
+/** @param {any} page */
+function showDownloads(page) {
+  byId('downloads').replaceChildren(...(page.downloads || []).map((/** @type {any} */ one) => element('li', {},
+    [element('a', { href: `/api/pages/${page.id}/download/${one.kind}`, textContent: one.title, download: '' })])));
+}
+
+/** @param {any} page @param {any} answer */
+export function showWhy(page, answer) {
+  const tint = (/** @type {number} */ value) => percent(value / page.maxval);
+  const head = element('tr', {}, ['Plate', 'Before', 'After'].map((text, k) => element('th', { textContent: text, scope: 'col', className: k ? 'number' : '' })));
+  const rows = answer.inks.map((/** @type {string} */ title, /** @type {number} */ k) => (answer.before[k] || answer.after[k] ? element('tr', {},
+    [element('td', { textContent: title }), element('td', { className: 'number', textContent: tint(answer.before[k]) }),
+      element('td', { className: 'number', textContent: tint(answer.after[k]) })]) : null)).filter(Boolean);
+  const side = (/** @type {any} */ colour) => `${answer.inks.map((/** @type {string} */ title, /** @type {number} */ k) => (colour.tints[k] ? `${title} ${tint(colour.tints[k])}` : '')).filter(Boolean).join(', ') || 'paper'}; neutral density ${colour.density.toFixed(2)}`;
+  const lines = [`Pixel ${answer.x}, ${answer.y}, zone ${answer.zone}: ${answer.reason}.`];
+  if (answer.edge) {
+    lines.push(`This side: ${side(answer.edge.own)}.`, `Across the edge: ${side(answer.edge.across)}.`,
+      `The edge is ${answer.edge.distance.toFixed(1)} pixels away; the trap reaches ${answer.edge.reach.toFixed(1)}${answer.edge.isBlack ? ', width at black' : ''}${answer.edge.isCentred ? ', centred' : ''}.`);
+  }
+  byId('why').replaceChildren(element('table', {}, [head, ...rows]), ...lines.map((text) => element('div', { textContent: text })));
+}

@@ -1,0 +1,169 @@
+// SPDX-License-Identifier: Apache-2.0
+// The page as a Leaflet map: one unit is one pixel of the plates, y grows downwards, and zoom 0 is 1:1.
+import * as L from '/leaflet/leaflet.esm.min.js';
+import { send } from './api.js';
+
+const TILE = 512;
+const CRS = L.extend({}, L.CRS.Simple, { transformation: new L.Transformation(1, 0, 1, 0) });
+const CLOSEST = 5;
+
+/** After the next frame is painted. */
+const painted = () => new Promise((done) => {
+  requestAnimationFrame(() => { const channel = new MessageChannel(); channel.port1.onmessage = () => done(performance.now()); channel.port2.postMessage(0); });
+});
+
+/** One picture of a page. */
+export class PageView {
+  /** @param {HTMLElement} element @param {{click?: (x: number, y: number) => void, fault?: (text: string) => void}} on */
+  constructor(element, on = {}) {
+    this.element = element;
+    this.on = on;
+    /** @type {any} */ this.page = null;
+    this.mode = 'after';
+    this.shownInks = 0xffff;
+    /** @type {number[][]} */ this.shifts = [];
+    /** @type {any} */ this.edits = null;
+    this.busy = false;
+    this.again = false;
+    /** @type {{key: string, pixels: Uint32Array}} */ this.base = { key: '', pixels: new Uint32Array(0) };
+    /** @type {{total: number, bytes: number}[]} */ this.times = [];
+    /** @type {any} */ this.live = null;
+    this.map = L.map(element, { crs: CRS, minZoom: -8, maxZoom: CLOSEST, fadeAnimation: false, zoomAnimation: false, attributionControl: false,
+      zoomControl: false, keyboardPanDelta: 120 });
+    this.map.createPane('live').style.zIndex = '300';
+    this.marks = L.layerGroup().addTo(this.map);
+    this.map.on('click', (/** @type {any} */ event) => this.on.click?.(Math.floor(event.latlng.lng), Math.floor(event.latlng.lat)));
+    this.map.on('moveend', () => this.moved());
+  }
+
+  /** Shows a page; the place on it stays if it has the same size. @param {any} page */
+  open(page) {
+    const isSame = this.page && this.page.id === page.id;
+    const keepsPlace = this.page && this.page.width === page.width && this.page.height === page.height;
+    this.page = page;
+    if (isSame) { this.refresh(); return; }
+    this.shifts = page.inks.map(() => [0, 0]);
+    this.hideLive();
+    this.tiles?.remove();
+    this.map.setMinZoom(-page.levels - 1);
+    this.map.setMaxBounds([[-page.height, -page.width], [2 * page.height, 2 * page.width]]);
+    this.tiles = L.tileLayer('', { tileSize: TILE, minNativeZoom: -page.levels, maxNativeZoom: 0, minZoom: -page.levels - 1, maxZoom: CLOSEST,
+      bounds: [[0, 0], [page.height, page.width]], noWrap: true, updateInterval: 30, keepBuffer: 1 });
+    this.tiles.getTileUrl = (/** @type {any} */ at) => this.address(at);
+    this.tiles.on('tileloadstart', (/** @type {any} */ event) => this.fitTile(event));
+    this.tiles.addTo(this.map);
+    if (!keepsPlace) this.fit();
+  }
+
+  fit() { this.map.fitBounds([[0, 0], [this.page.height, this.page.width]]); }
+
+  /** The tile's address has the version, so that the browser keeps tiles for ever. @param {{x: number, y: number, z: number}} at */
+  address(at) {
+    const version = this.mode === 'before' ? 0 : this.page.shown;
+    return `/api/pages/${this.page.id}/tiles/${this.mode}/${this.page.epoch}-${version}/${this.shownInks}/${Math.max(0, -at.z)}/${at.x}/${at.y}`;
+  }
+
+  /** Leaflet gives each tile its full size; one at the page's border is smaller. @param {any} event */
+  fitTile({ tile, coords }) {
+    const size = this.tiles.getTileSize(), scale = 2 ** Math.max(0, -coords.z);
+    const share = (/** @type {number} */ side, /** @type {number} */ at) => Math.min(TILE, Math.ceil(side / scale) - at * TILE) / TILE;
+    tile.style.width = `${share(this.page.width, coords.x) * size.x}px`;
+    tile.style.height = `${share(this.page.height, coords.y) * size.y}px`;
+    tile.alt = '';
+  }
+
+  /** New pictures in the tiles that are there: each old one stays until the new one is decoded, so nothing flickers. */
+  refresh() {
+    if (!this.tiles) return Promise.resolve([]);
+    const waits = Object.values(this.tiles._tiles).map((/** @type {any} */ { el, coords }) => {
+      const next = this.address({ ...coords, z: Math.min(0, coords.z) });
+      if (el.getAttribute('src') === next) return null;
+      return new Promise((done) => { el.onload = el.onerror = done; el.src = next; });
+    });
+    return Promise.all(waits);
+  }
+
+  /** @param {string} mode @param {number} shownInks */
+  async show(mode, shownInks) {
+    this.mode = mode;
+    this.shownInks = shownInks;
+    if (this.needsLive()) await this.look(); else this.hideLive();
+    await this.refresh();
+  }
+
+  isShifted() { return this.shifts.some(([x, y]) => x || y); }
+  isNear() { return this.map.getZoom() >= 0; }
+  needsLive() { return this.isNear() && (this.isShifted() || (this.mode !== 'before' && this.page.version !== this.page.shown)); }
+
+  /** The visible part in pixels of the page. */
+  visible() {
+    const box = this.map.getBounds(), { width, height } = this.page;
+    const left = Math.max(0, Math.floor(box.getWest())), top = Math.max(0, Math.floor(Math.min(box.getNorth(), box.getSouth())));
+    const right = Math.min(width, Math.ceil(box.getEast())), bottom = Math.min(height, Math.ceil(Math.max(box.getNorth(), box.getSouth())));
+    return { left, top, width: Math.max(0, right - left), height: Math.max(0, bottom - top) };
+  }
+
+  moved() {
+    this.element.classList.toggle('close', this.map.getZoom() > 0);
+    if (!this.page) return;
+    if (this.needsLive()) this.look(); else { this.hideLive(); this.prepare(); }
+  }
+
+  hideLive() { this.live?.remove(); this.live = null; }
+
+  /** The picture before trapping of what is visible is fetched ahead, so that a change sends changed pixels alone. */
+  prepare() {
+    clearTimeout(this.idle);
+    this.idle = setTimeout(() => { if (this.isNear() && !this.busy) this.fetchBase().catch(() => {}); }, 150);
+  }
+
+  async fetchBase() {
+    const part = this.visible(), key = JSON.stringify([this.page.id, this.page.epoch, part, this.shownInks]);
+    if (this.base.key === key || !part.width || !part.height) return;
+    const answer = await send(`/api/pages/${this.page.id}/view`, { ...part, mode: 'before', inks: this.shownInks });
+    this.base = { key, pixels: new Uint32Array(await answer.arrayBuffer()) };
+  }
+
+  /** Draws the visible part at 1:1 by the job as it is now. One request at a time; a later one waits, the last one counts. */
+  async look() {
+    if (this.busy) { this.again = true; return; }
+    this.busy = true;
+    try {
+      do {
+        this.again = false;
+        await this.drawLive();
+      } while (this.again);
+    } catch (fault) {
+      this.on.fault?.(String(fault instanceof Error ? fault.message : fault));
+    } finally { this.busy = false; }
+  }
+
+  async drawLive() {
+    if (!this.needsLive()) { this.hideLive(); return; }
+    const start = this.changedAt || performance.now(), part = this.visible();
+    this.changedAt = 0;
+    if (!part.width || !part.height) return;
+    const isDelta = this.mode === 'after' && !this.isShifted();
+    if (isDelta) await this.fetchBase();
+    const body = { ...part, mode: this.mode, inks: this.shownInks, delta: isDelta, shifts: this.isShifted() ? this.shifts : null };
+    const answer = await send(`/api/pages/${this.page.id}/view`, body), data = await answer.arrayBuffer();
+    const pixels = isDelta ? this.over(this.base.pixels, new Uint32Array(data)) : new Uint32Array(data);
+    const canvas = document.createElement('canvas');
+    Object.assign(canvas, { width: part.width, height: part.height, className: 'live-picture' });
+    canvas.getContext('2d')?.putImageData(new ImageData(new Uint8ClampedArray(pixels.buffer), part.width, part.height), 0, 0);
+    const old = this.live;
+    this.live = L.svgOverlay(/** @type {any} */ (canvas), [[part.top, part.left], [part.top + part.height, part.left + part.width]],
+      { pane: 'live' }).addTo(this.map);
+    old?.remove();
+    this.times.push({ total: await painted() - start, bytes: data.byteLength });
+  }
+
+  /** Changed pixels over the picture before: first all places, then all colours. @param {Uint32Array} base @param {Uint32Array} changes */
+  over(base, changes) {
+    const pixels = base.slice(), count = changes.length / 2;
+    for (let k = 0; k < count; k += 1) pixels[changes[k]] = changes[count + k];
+    return pixels;
+  }
+}
+
+export { L };
