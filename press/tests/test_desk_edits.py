@@ -1,0 +1,85 @@
+# SPDX-License-Identifier: Apache-2.0
+"""The editor's blocks in a job: they go in and come out, and all other bytes stay."""
+import pytest
+
+from press.desk.job_edits import (EditedInk, EditedZone, Edits, apply_edits, number, pixels_of_polygon,
+                                  polygon_of_pixels, take_apart)
+from press.job_language import read_job
+
+pytestmark = [pytest.mark.plain, pytest.mark.quick]
+
+PLAIN = b"""%!PS
+<< /HWResolution [600 600] /TrappingDetails << /Type 1001 /ColorantDetails <<
+  /Cyan << /NeutralDensity 0.61 >> /Black << /NeutralDensity 1.70 >> >> >> >> setpagedevice
+<< /TrapWidth 0.3 >> settrapparams  % the house's
+showpage
+"""
+ON_ONE_LINE = b"%!PS\n<< /HWResolution [72 72] >> setpagedevice << /TrapWidth 2 >> settrapparams showpage"
+WITH_ZONES = PLAIN.replace(b"showpage", b"""% The whole page:
+newpath 0 0 moveto 300 0 rlineto 0 200 rlineto -300 0 rlineto settrapzone
+% Within images nothing is trapped (--trap-images traps there too):
+<< /Enabled false >> settrapparams
+newpath 10 10 moveto 50 0 rlineto 0 50 rlineto -50 0 rlineto settrapzone
+
+showpage""")
+SQUARE = ((100_000, 100_000), (300_000, 100_000), (300_000, 205_000))
+PANEL = EditedZone('Panel "A" of the lid', SQUARE, {"TrapWidth": 12_000})
+OVER = EditedZone("over a picture", SQUARE, {"Enabled": False}, over_images=True)
+EDITS = [Edits(), Edits({"TrapWidth": 5_000, "BlackWidth": 15_000}), Edits({}, {"Cyan": EditedInk(7_000, "Opaque")}),
+         Edits({}, {}, (PANEL,)), Edits({"StepLimit": 1}, {"Black": EditedInk(16_500, "Normal")}, (PANEL, OVER)),
+         Edits({}, {}, (OVER,)), Edits({}, {}, (EditedZone("follows the page", SQUARE, {}),))]
+
+
+@pytest.mark.parametrize("job", [PLAIN, ON_ONE_LINE, WITH_ZONES])
+@pytest.mark.parametrize("edits", EDITS)
+def test_edits_come_out_as_they_went_in(job, edits):
+    """The original is found again byte for byte, and the edits with it."""
+    text = apply_edits(job, edits)
+    assert take_apart(text) == (job, edits)
+    read_job(text)
+
+
+def test_a_job_without_edits_stays_byte_for_byte():
+    """Nothing is written for nothing."""
+    assert apply_edits(WITH_ZONES, Edits()) == WITH_ZONES
+
+
+def test_the_first_zone_does_not_turn_off_the_page():
+    """A zone of the whole page comes before the editor's first zone if the job has none."""
+    zones = read_job(apply_edits(PLAIN, Edits({}, {}, (PANEL,)))).zones
+    assert [zone.parameters.enabled for zone in zones] == [False, True, True]
+    assert [zone.parameters.trap_width for zone in zones[1:]] == [3_000, 12_000]
+
+
+def test_a_zone_lies_below_images_unless_it_is_to_go_over_them():
+    """The order of zones decides, since the last one that covers a pixel counts."""
+    zones = read_job(apply_edits(WITH_ZONES, Edits({}, {}, (PANEL, OVER)))).zones
+    assert [zone.parameters.enabled for zone in zones[1:]] == [True, True, False, False]
+    assert [zone.parameters.trap_width for zone in zones[1:]] == [3_000, 12_000, 3_000, 3_000]
+    assert zones[3].subpaths == (((100_000, 100_000), (600_000, 100_000), (600_000, 600_000), (100_000, 600_000)),)
+
+
+def test_the_page_and_its_zones_follow_new_settings():
+    """A zone keeps what it sets itself and takes the rest from the page."""
+    zones = read_job(apply_edits(WITH_ZONES, Edits({"TrapWidth": 8_000, "StepLimit": 1_000}, {}, (PANEL,)))).zones
+    assert [(zone.parameters.trap_width, zone.parameters.step_limit) for zone in zones[1:3]] == [(8_000, 1_000), (12_000, 1_000)]
+
+
+def test_a_block_that_was_changed_by_hand_is_left_alone():
+    """Such a text is the owner's: it is no edit any more, and stays."""
+    text = apply_edits(PLAIN, Edits({"TrapWidth": 5_000})).replace(b"0.5 >>", b"0.50 >>")
+    assert take_apart(text) == (text, Edits())
+
+
+def test_corners_come_back_on_their_pixels():
+    """Corners on pixel borders survive the job's ten-thousandths of a point at usual resolutions."""
+    for resolution in (72, 300, 600, 1200, 2400, 2540):
+        points = [(0, 0), (17, 0), (17, 4_001), (0, 4_001)]
+        found = pixels_of_polygon(polygon_of_pixels(points, resolution, 5_000), resolution, 5_000)
+        assert [(round(x, 2), round(y, 2)) for x, y in found] == points
+
+
+@pytest.mark.parametrize("value, text", [(0, "0"), (1, "0.0001"), (-25_000, "-2.5"), (10_000, "1"), (123_400, "12.34")])
+def test_numbers_are_spelled_as_a_job_has_them(value, text):
+    """Ten-thousandths without needless digits."""
+    assert number(value) == text
