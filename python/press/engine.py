@@ -8,7 +8,7 @@ import os
 import re
 import subprocess
 import tempfile
-from collections.abc import Sequence
+from collections.abc import Callable, Sequence
 from dataclasses import dataclass
 from typing import Any
 
@@ -24,6 +24,7 @@ from .settings import Settings
 
 USUAL_THREADS = 4
 AT = re.compile(r"job: .* at (\d+)")
+Started = Callable[["subprocess.Popen[bytes]"], None]
 
 
 @dataclass(frozen=True)
@@ -141,19 +142,23 @@ def refusal(page: PageFolder, name: str, done: "subprocess.CompletedProcess[byte
     return PressError(Status.PROGRAM, what, place)
 
 
-def run_on(page: PageFolder, name: str, words: list[str]) -> bytes:
-    """Runs a program in a page's folder, and answers what it printed."""
+def run_on(page: PageFolder, name: str, words: list[str], started: Started | None = None) -> bytes:
+    """Runs a program in a page's folder, and answers what it printed. `started` gets the child, to stop it."""
     path = tools.program(name)
-    done = tools.run([path, *words], cwd=page.path, env=tools.environment(path))
+    with tools.running([path, *words], cwd=page.path, env=tools.environment(path)) as child:
+        if started:
+            started(child)
+        printed, complained = child.communicate()
+    done = subprocess.CompletedProcess([path, *words], child.returncode, printed, complained)
     if done.returncode != 0:
         need_room(page.path, f"{name} wrote")
         raise refusal(page, name, done)
     return done.stdout
 
 
-def trap(page: PageFolder, settings: Settings) -> Trapped:
+def trap(page: PageFolder, settings: Settings, started: Started | None = None) -> Trapped:
     """Traps a page: trapped plates, report, report.json and, by settings.check, the numbers of presscheck come
-    into its folder "trapped", in place of what stood there."""
+    into its folder "trapped", in place of what stood there. `started` gets the trapping program's process."""
     if not os.path.isfile(page.file(JOB)):
         raise PressError(Status.INPUT, "No such file", page.file(JOB))
     name = trapper_of(page)
@@ -161,7 +166,7 @@ def trap(page: PageFolder, settings: Settings) -> Trapped:
         tools.program("presscheck")
     with folder_beside(page.path, inside=True) as made:
         out = os.path.basename(made)
-        run_on(page, name, words_of(name, page, out, settings))
+        run_on(page, name, words_of(name, page, out, settings), started)
         warnings = check(page, out, settings.check) if settings.check is not None else ()
         with open(os.path.join(made, REPORT), encoding="utf-8") as file:
             report = Report.of(file.read())

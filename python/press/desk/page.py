@@ -2,7 +2,7 @@
 """One page that is open in the editor: its plates, its job with the edits, and what browsers ask of it."""
 from __future__ import annotations
 
-import json
+import hashlib
 import secrets
 import threading
 from collections.abc import Mapping, Sequence
@@ -16,18 +16,19 @@ from numpy.typing import NDArray
 
 from press import folder as folders
 from press import inks as press_inks
-from press.files import whole_file
+from press.files import whole_file, write_text
 from press.folder import PageFolder
 from press.job_language import KEYS, Job, read_job
 from press.names import readable
 
 from . import why
-from .colours import Inks, Pixels, png
+from .colours import Inks, png
 from .job_edits import (EditedInk, EditedZone, Edits, apply_edits, pixels_of_polygon, polygon_of_pixels, take_apart)
 from .live import InkNames, LivePage
 from .pyramid import FIRST_LEVEL, Part, Pyramid, eight_bits, open_pyramid, plates_key
 
 KEPT = ".desk"
+TRAPPED_JOB = "trapped.sha256"
 TILE = 512
 MOST_PIXELS = 4 << 20
 MOST_SHIFT = 256
@@ -66,6 +67,7 @@ class DeskPage:
         self.folder = PageFolder.read(path)
         self.folder.need_trapped()
         self.kept = Path(path) / KEPT
+        self._record = self.kept / TRAPPED_JOB
         self.maxval = self.folder.head.maxval
         self.width, self.height = self.folder.head.width, self.folder.head.height
         self.resolution = self.folder.source.resolution
@@ -80,7 +82,7 @@ class DeskPage:
         self.redo: list[bytes] = []
         self.before = self._pyramid(trapped=False)
         self.after = self._pyramid(trapped=True)
-        names = InkNames([self.names[k] for k in range(len(self.names))], self.inked)
+        names = InkNames(self.names, self.inked)
         self.live = LivePage(self.before.planes, self.maxval, names, self.resolution)
         self._take(Path(self.folder.file(folders.JOB)).read_bytes())
         self._marks: tuple[int, Pyramid | None] = (0, None)
@@ -133,6 +135,8 @@ class DeskPage:
     def _write(self, text: bytes) -> None:
         """Puts a job into place, if the engine takes it."""
         trapping.halo(text)
+        if not self._record.exists():
+            self.record_trapped(self.text)
         with whole_file(self.folder.file(folders.JOB)) as path:
             Path(path).write_bytes(text)
         self._take(text)
@@ -159,6 +163,30 @@ class DeskPage:
         """The parameters of the page: those of its first zone, which is the whole page."""
         parameters = job.zones[min(1, len(job.zones) - 1)].parameters
         return {key: getattr(parameters, name) for key, name in KEYS.items()}
+
+    def record_trapped(self, text: bytes) -> None:
+        """Notes by which job the trapped plates in the folder were made."""
+        self.kept.mkdir(exist_ok=True)
+        write_text(str(self._record), hashlib.sha256(text).hexdigest() + "\n")
+
+    def is_behind(self) -> bool:
+        """Whether the trapped plates in the folder are known to be those of an older job."""
+        try:
+            return self._record.read_text().strip() != hashlib.sha256(self.text).hexdigest()
+        except OSError:
+            return False
+
+    def take_trapped(self, version: int) -> bool:
+        """Shows the trapped plates that now lie in the folder, made by the job of a version; False if that is not
+        the newest one."""
+        if version != self.version:
+            return False
+        after = self._pyramid(trapped=True)
+        with self.lock:
+            if version != self.version:
+                return False
+            self.after, self.shown = after, version
+        return True
 
     # What browsers see
 
@@ -330,6 +358,3 @@ def answer_json(answer: why.Answer, pixel: tuple[int, int], titles: Sequence[str
             "reach": edge.reach, "isBlack": edge.is_black, "isCentred": edge.is_centred} if edge else None
     return {"x": pixel[0], "y": pixel[1], "zone": answer.zone, "reason": answer.reason, "inks": list(titles),
             "before": answer.before, "after": answer.after, "edge": said}
-
-
-__all__ = ["BadRequest", "DeskPage", "Pixels", "VersionConflict", "View", "json"]
