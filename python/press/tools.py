@@ -17,7 +17,8 @@ LOG = logging.getLogger("press")
 # The Debian package of a tool or of a Python module.
 PACKAGES = {"gs": "ghostscript", "mutool": "mupdf-tools", "parallel": "parallel", "inotifywait": "inotify-tools",
             "qpdf": "qpdf", "numpy": "python3-numpy", "PIL": "python3-pil", "pikepdf": "python3-pikepdf",
-            "lxml": "python3-lxml", "tifffile": "python3-tifffile"}
+            "lxml": "python3-lxml", "tifffile": "python3-tifffile", "starlette": "python3-starlette",
+            "uvicorn": "python3-uvicorn", "websockets": "python3-websockets"}
 STOPS = (signal.SIGINT, signal.SIGTERM, signal.SIGHUP)
 SET_PARENT_DEATH_SIGNAL = 1
 STOP_AGAIN = 0.5

@@ -25,6 +25,7 @@ from press.errors import PressError
 from .guard import Guard
 from .page import MODES, BadRequest, VersionConflict, View
 from .store import NoSuchThing, Store
+from .uploads import TooMuch
 
 STATIC = Path(__file__).parent / "static"
 LEAFLET = Path("/usr/share/javascript/leaflet")
@@ -48,6 +49,8 @@ def answers(handler: Handler) -> Handler:
             return fault(404, str(missing))
         except VersionConflict as conflict:
             return fault(409, str(conflict))
+        except TooMuch as beyond:
+            return fault(413, str(beyond))
         except (BadRequest, json.JSONDecodeError, UnicodeDecodeError) as bad:
             return fault(400, str(bad))
         except (trapping.Refusal, PressError) as refused:
@@ -185,6 +188,7 @@ class Server:
         post = ["POST"]
         return [
             Route("/", index), Route("/api/jobs", answers(self.jobs)),
+            Route("/api/jobs", answers(self.upload), methods=post),
             Route("/api/jobs", answers(self.upload), methods=post),
             Route("/api/jobs/{job:str}/cancel", answers(self.cancel), methods=post),
             Route(page, answers(self.page)), Route(f"{page}/edits", answers(self.edits), methods=post),

@@ -25,6 +25,7 @@ from press.names import readable
 from .events import Events
 from .page import BadRequest, DeskPage
 from .runs import PageRun
+from .uploads import Queue, Upload, sweep
 
 MOST_OPEN = 12
 """Pages that are open at once; the one that was used longest ago is closed first."""
@@ -69,6 +70,8 @@ class Store:
         self.folder = Path(folder).resolve()
         self.events = Events()
         self.lock = threading.RLock()
+        sweep(self.folder)
+        self.queue = Queue(self.folder, lambda: self.events.tell(kind="jobs"))
         self.opened: OrderedDict[str, OpenPage] = OrderedDict()
         self.places: dict[str, Place] = {}
 
@@ -82,12 +85,24 @@ class Store:
             for folder in self._job_folders():
                 pages = [self._listed(folder, number, path, why) for number, path, why in pages_of(folder)]
                 title = next((page["title"] for page in pages if page["title"]), folder.name)
-                jobs.append({"id": id_of(folder), "name": title, "state": "done", "message": "", "pages": pages})
+                sent = self.queue.jobs.get(folder.name)
+                jobs.append({"id": folder.name if sent else id_of(folder), "name": sent.name if sent else title,
+                             "state": sent.state if sent else "done", "message": sent.message if sent else "",
+                             "pages": pages})
         return jobs
 
     def _job_folders(self) -> list[Path]:
         below = sorted(one for one in self.folder.iterdir() if one.is_dir() and not one.name.startswith("."))
-        return [folder for folder in (self.folder, *below) if any(True for _ in pages_of(folder))]
+        return [folder for folder in (self.folder, *below) if folder.name in self.queue.jobs or pages_of(folder)]
+
+    def begin_upload(self, name: str) -> Upload:
+        """Begins to take a file that a browser sends."""
+        return self.queue.begin(name)
+
+    def cancel(self, key: str) -> None:
+        """Stops a job that waits or runs."""
+        if not self.queue.cancel(key):
+            raise NoSuchThing("no such job runs")
 
     def _listed(self, job: Path, number: int, path: Path, why: str) -> dict[str, Any]:
         """A page of the list; one that failed has no id."""
@@ -151,6 +166,7 @@ class Store:
 
     def close(self) -> None:
         """Stops all runs."""
+        self.queue.close()
         with self.lock:
             for one in self.opened.values():
                 one.run.close()

@@ -22,20 +22,9 @@ export async function send(path, body, method = 'POST') {
   return checked(await fetch(path, { method, headers: { 'content-type': 'application/json' }, body: JSON.stringify(body) }));
 }
 
-/**
- * Uploads files as one job: the first is sent as it is, several as the separations of one page.
- * @param {File[]} files
- */
-export async function upload(files) {
-  if (files.length === 1) {
-    const [file] = files;
-    return (await checked(await fetch(`/api/jobs?name=${encodeURIComponent(file.name)}`, { method: 'POST', body: file }))).json();
-  }
-  const { id } = await (await send('/api/jobs/separations', { count: files.length })).json();
-  for (const file of files) {
-    await checked(await fetch(`/api/jobs/${id}/separations?name=${encodeURIComponent(file.name)}`, { method: 'POST', body: file }));
-  }
-  return (await send(`/api/jobs/${id}/start`, {})).json();
+/** Uploads a file, which becomes a job. @param {File} file */
+export async function upload(file) {
+  return (await checked(await fetch(`/api/jobs?name=${encodeURIComponent(file.name)}`, { method: 'POST', body: file }))).json();
 }
 
 /**

@@ -37,7 +37,7 @@ async function take(list) {
   if (!files.length) return;
   say(`Uploading ${files.map((file) => file.name).join(', ')}`);
   try {
-    await upload(files);
+    for (const file of files) await upload(file);
     say('Uploaded.');
   } catch (fault) { say(String(fault instanceof Error ? fault.message : fault), true); }
 }

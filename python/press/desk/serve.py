@@ -1,0 +1,129 @@
+# SPDX-License-Identifier: Apache-2.0
+"""Starts the server: its address, its token, the browser, and an end within two seconds of a signal."""
+from __future__ import annotations
+
+import asyncio
+import ipaddress
+import os
+import secrets
+import signal
+import socket
+import webbrowser
+from collections.abc import Callable
+from dataclasses import dataclass
+
+import uvicorn
+
+from press.errors import PressError, Status, UsageError, reason
+from press.files import need_folder, table_lines
+
+from .guard import LOOPBACK, allowed_hosts
+from .server import application
+from .store import Store
+
+USUAL_PORT = 8631
+SHORTEST_TOKEN = 16
+SECONDS_TO_END = 1.0
+
+
+@dataclass(frozen=True)
+class Where:
+    """The port, the address for other machines if there is one, and the file of the token."""
+
+    port: int
+    listen: str | None = None
+    token_file: str | None = None
+
+    @property
+    def host(self) -> str:
+        """The address that the server binds to."""
+        return self.listen or "127.0.0.1"
+
+    def token(self) -> str | None:
+        """The token that browsers need; None on the loopback address."""
+        if self.listen is None:
+            if self.token_file:
+                raise UsageError("--token goes with --listen")
+            return None
+        if self.token_file is None:
+            return secrets.token_urlsafe(24)
+        lines = table_lines(self.token_file)
+        token = lines[0].strip() if lines else ""
+        if len(token) < SHORTEST_TOKEN or not token.isprintable():
+            raise PressError(Status.INPUT, f"a token has {SHORTEST_TOKEN} characters at least", self.token_file)
+        return token
+
+    def hosts(self) -> frozenset[str]:
+        """The names by which browsers may call the server."""
+        if self.listen is None:
+            return allowed_hosts(LOOPBACK, self.port)
+        return allowed_hosts((*LOOPBACK, bracketed(self.listen), socket.gethostname()), self.port)
+
+
+def bracketed(address: str) -> str:
+    """An address as a URL has it."""
+    try:
+        return f"[{address}]" if ipaddress.ip_address(address).version == 6 else address
+    except ValueError:
+        return address
+
+
+class DeskServer(uvicorn.Server):
+    """A server that closes its WebSockets when a signal comes, since an open one would keep it from ending."""
+
+    def __init__(self, config: uvicorn.Config, store: Store, ready: Callable[[], None]) -> None:
+        super().__init__(config)
+        self.store, self.ready = store, ready
+
+    def install_signal_handlers(self) -> None:
+        """A first signal ends the server in order, a second one at once."""
+        loop = asyncio.get_running_loop()
+        for number in (signal.SIGINT, signal.SIGTERM):
+            loop.add_signal_handler(number, self._end)
+
+    def _end(self) -> None:
+        if self.should_exit:
+            self.force_exit = True
+        self.should_exit = True
+        self.store.events.stop()
+        asyncio.get_running_loop().call_later(SECONDS_TO_END, self._force)
+
+    def _force(self) -> None:
+        self.force_exit = True
+
+    async def startup(self, sockets: list[socket.socket] | None = None) -> None:
+        """Says where the app is once the server answers."""
+        await super().startup(sockets)
+        self.ready()
+
+
+def bound_socket(where: Where) -> socket.socket:
+    """A socket that is bound, so that a port in use is a refusal with a line."""
+    family = socket.AF_INET6 if ":" in where.host else socket.AF_INET
+    made = socket.socket(family, socket.SOCK_STREAM)
+    made.setsockopt(socket.SOL_SOCKET, socket.SO_REUSEADDR, 1)
+    try:
+        made.bind((where.host, where.port))
+    except OSError as fault:
+        made.close()
+        raise PressError(Status.OUTPUT, reason(fault), f"{where.host}:{where.port}") from fault
+    return made
+
+
+def serve(folder: str, where: Where, opens_browser: bool, say: Callable[[str], None]) -> None:
+    """Serves a folder until a signal comes. `say` gets the line with the address."""
+    need_folder(folder)
+    if not os.access(folder, os.W_OK):
+        raise PressError(Status.OUTPUT, "cannot be written to", folder)
+    token = where.token()
+    address = f"http://{bracketed(where.host)}:{where.port}/" + (f"?token={token}" if token else "")
+    with bound_socket(where) as listening:
+        store = Store(folder)
+
+        def ready() -> None:
+            say(address)
+            if opens_browser:
+                webbrowser.open(address)
+        config = uvicorn.Config(application(store, where.hosts(), token), log_level="warning", access_log=False,
+                                timeout_keep_alive=30)
+        DeskServer(config, store, ready).run([listening])
