@@ -62,7 +62,8 @@ def test_a_zone_lies_below_images_unless_it_is_to_go_over_them():
 def test_the_page_and_its_zones_follow_new_settings():
     """A zone keeps what it sets itself and takes the rest from the page."""
     zones = read_job(apply_edits(WITH_ZONES, Edits({"TrapWidth": 8_000, "StepLimit": 1_000}, {}, (PANEL,)))).zones
-    assert [(zone.parameters.trap_width, zone.parameters.step_limit) for zone in zones[1:3]] == [(8_000, 1_000), (12_000, 1_000)]
+    found = [(zone.parameters.trap_width, zone.parameters.step_limit) for zone in zones[1:3]]
+    assert found == [(8_000, 1_000), (12_000, 1_000)]
 
 
 def test_a_block_that_was_changed_by_hand_is_left_alone():

@@ -23,7 +23,7 @@ pytestmark = [pytest.mark.plain, pytest.mark.quick]
 
 
 def random_job(seed: int):
-    """A random picture, the text of a job for it, and the job by the reference implementation; None if it has a fault."""
+    """A random picture, a job for it, and what the reference implementation reads; None if it has a fault."""
     rng = random.Random(seed)
     picture = pictures.picture(rng)
     text = jobs.job(rng, picture)

@@ -23,7 +23,7 @@ PALEST, PALE_RANGE = 205, 50
 
 def packed(red: NDArray[np.uint32], green: NDArray[np.uint32], blue: NDArray[np.uint32]) -> Pixels:
     """Colours as the canvas wants them."""
-    return red | green << np.uint32(8) | blue << np.uint32(16) | OPAQUE
+    return np.asarray(red | green << np.uint32(8) | blue << np.uint32(16) | OPAQUE, np.uint32)
 
 
 def packed_light(light: tuple[int, int, int]) -> np.uint32:

@@ -58,7 +58,8 @@ class Guard:
         if self.token is None or self.knows_token(headers.get("cookie", "")):
             return None
         given = parse_qs(scope.get("query_string", b"").decode("latin-1")).get("token", [""])[0]
-        if scope["type"] == "http" and scope["path"] == "/" and hmac.compare_digest(given.encode(), self.token.encode()):
+        is_first = scope["type"] == "http" and scope["path"] == "/"
+        if is_first and hmac.compare_digest(given.encode(), self.token.encode()):
             welcome = RedirectResponse("/", 303)
             welcome.set_cookie(COOKIE, self.token, httponly=True, samesite="strict", path="/")
             return welcome

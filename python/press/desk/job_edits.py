@@ -165,7 +165,8 @@ def _line_start(text: bytes, at: int) -> int:
 
 SETTING = re.compile(r"/(\w+) (\S+)")
 INK = re.compile(r"^  /(\S+) << /NeutralDensity (\S+) /ColorantType /(\S+) >>$", re.M)
-ZONE = re.compile(r"^% Zone (\".*\"):\n<<.*>> settrapparams\n(?:<<(.*)>> settrapparams\n)?newpath (.*) settrapzone\n", re.M)
+ZONE = re.compile(r"^% Zone (\".*\"):\n<<.*>> settrapparams\n(?:<<(.*)>> settrapparams\n)?"
+                  r"newpath (.*) settrapzone\n", re.M)
 CORNER = re.compile(r"(\S+) (\S+) (?:moveto|lineto)")
 
 

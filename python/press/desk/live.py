@@ -50,7 +50,8 @@ class LivePage:
         """A part of the inked plates, plates × rows × columns, with 0 for no ink."""
         out = np.empty((len(self.inked), height, width), self.kind)
         for place, k in enumerate(self.inked):
-            np.subtract(self.maxval, self.planes[k][top:top + height, left:left + width], out=out[place], casting="unsafe")
+            part = self.planes[k][top:top + height, left:left + width]
+            np.subtract(self.maxval, part, out=out[place], casting="unsafe")
         return out
 
     def trapped(self, job: bytes, left: int, top: int, width: int, height: int) -> list[Plane]:

@@ -68,11 +68,13 @@ def bracketed(address: str) -> str:
         return address
 
 
-class DeskServer(uvicorn.Server):
+class DeskServer(uvicorn.Server):  # type: ignore[misc]
     """A server that closes its WebSockets when a signal comes, since an open one would keep it from ending."""
 
     def __init__(self, config: uvicorn.Config, store: Store, ready: Callable[[], None]) -> None:
         super().__init__(config)
+        self.should_exit: bool = False
+        self.force_exit: bool = False
         self.store, self.ready = store, ready
 
     def install_signal_handlers(self) -> None:

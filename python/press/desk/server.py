@@ -23,7 +23,7 @@ from starlette.types import ASGIApp
 from press.errors import PressError
 
 from .guard import Guard
-from .page import MODES, BadRequest, VersionConflict, View
+from .page import MODES, BadRequest, DeskPage, VersionConflict, View
 from .store import NoSuchThing, Store
 from .uploads import TooMuch
 
@@ -119,7 +119,7 @@ class Server:
         said = await json_body(request)
         return await self._changed(request, lambda page: page.step(int(said["version"]), False))
 
-    async def _changed(self, request: Request, change: Callable[[Any], None]) -> Response:
+    async def _changed(self, request: Request, change: Callable[[DeskPage], None]) -> Response:
         key = request.path_params["page"]
 
         def work() -> dict[str, Any]:
@@ -146,9 +146,9 @@ class Server:
         """A part of a page at 1:1, as the browser's canvas takes it."""
         said = await json_body(request)
         try:
-            numbers = [int(said[name]) for name in ("left", "top", "width", "height")]
+            left, top, width, height = (int(said[name]) for name in ("left", "top", "width", "height"))
             shifts = [(int(x), int(y)) for x, y in said["shifts"]] if said.get("shifts") else None
-            view = View(*numbers, str(said["mode"]), int(said["inks"]), shifts, bool(said.get("delta")))
+            view = View(left, top, width, height, str(said["mode"]), int(said["inks"]), shifts, bool(said.get("delta")))
         except (KeyError, TypeError, ValueError) as bad:
             raise BadRequest(f"this is no view: {bad}") from bad
         page = self.store.page(request.path_params["page"])
