@@ -17,12 +17,19 @@ export async function get(path) {
   return (await checked(await fetch(path))).json();
 }
 
-/** @param {string} path @param {unknown} body @param {string} [method] */
+/**
+ * @param {string} path
+ * @param {unknown} body
+ * @param {string} [method]
+ */
 export async function send(path, body, method = 'POST') {
   return checked(await fetch(path, { method, headers: { 'content-type': 'application/json' }, body: JSON.stringify(body) }));
 }
 
-/** Uploads a file, which becomes a job. @param {File} file */
+/**
+ * Uploads a file, which becomes a job.
+ * @param {File} file
+ */
 export async function upload(file) {
   return (await checked(await fetch(`/api/jobs?name=${encodeURIComponent(file.name)}`, { method: 'POST', body: file }))).json();
 }

@@ -4,7 +4,10 @@ import { L } from './view.js';
 
 /** Draws rectangles and polygons by mouse, pen or touch, and by clicks alone. */
 export class Drawing {
-  /** @param {import('./view.js').PageView} view @param {(points: number[][]) => void} done */
+  /**
+   * @param {import('./view.js').PageView} view
+   * @param {(points: number[][]) => void} done
+   */
   constructor(view, done) {
     this.view = view;
     this.done = done;
@@ -58,7 +61,10 @@ export class Drawing {
   }
 }
 
-/** @param {'rectangle' | 'polygon'} tool @param {number[][]} points */
+/**
+ * @param {'rectangle' | 'polygon'} tool
+ * @param {number[][]} points
+ */
 function corners(tool, points) {
   if (tool === 'polygon' || points.length < 2) return points;
   const [[x0, y0], [x1, y1]] = points;

@@ -4,7 +4,10 @@ import { send, upload } from './api.js';
 import { byId, element } from './panels.js';
 import { say } from './main.js';
 
-/** @param {any} app @param {(id: string) => void} open */
+/**
+ * @param {any} app
+ * @param {(id: string) => void} open
+ */
 export function showJobs(app, open) {
   const pick = /** @type {HTMLSelectElement} */ (byId('page')), chosen = app.page?.id;
   pick.replaceChildren();

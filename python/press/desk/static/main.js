@@ -14,11 +14,15 @@ export const app = {
   shownInks: 0xffff,
   chosenZone: -1,
   /** @type {any} */ waiting: null,
+  /** @type {number[][] | null} */ shifts: null,
   isSending: false,
   ready: false,
 };
 
-/** @param {string} text @param {boolean} [isAlert] */
+/**
+ * @param {string} text
+ * @param {boolean} [isAlert]
+ */
 export function say(text, isAlert = false) {
   byId('status').textContent = text;
   byId('status').classList.toggle('alert', isAlert);
@@ -43,6 +47,7 @@ export async function openPage(id) {
   if (isOther) {
     app.chosenZone = -1;
     app.waiting = null;
+    app.shifts = null;
     markLayer.clearLayers();
     byId('why').textContent = 'Click a pixel, or press Enter with the page in focus for the middle of the view.';
   }
@@ -76,7 +81,12 @@ function setInks(shown) {
   if (!byId('other').hidden) other.show(other.mode, shown);
 }
 
-/** Moves one plate, in whole pixels. @param {number} ink @param {number} axis @param {number} pixels */
+/**
+ * Moves one plate, in whole pixels.
+ * @param {number} ink
+ * @param {number} axis
+ * @param {number} pixels
+ */
 function setShift(ink, axis, pixels) {
   view.shifts[ink][axis] = pixels;
   if (view.map.getZoom() < 0) view.map.setZoom(0);
@@ -121,7 +131,10 @@ async function sendEdits() {
   }
 }
 
-/** Another browser changed the job first: nothing is lost, and the change can be made on the newer version. @param {any} edits */
+/**
+ * Another browser changed the job first: nothing is lost, and the change can be made on the newer version.
+ * @param {any} edits
+ */
 async function conflict(edits) {
   await openPage(app.page.id);
   say('Not saved: another window changed this page first.', true);
@@ -144,7 +157,10 @@ async function step(which) {
 
 // Questions, notes, approval
 
-/** @param {number} x @param {number} y */
+/**
+ * @param {number} x
+ * @param {number} y
+ */
 async function ask(x, y) {
   const { page } = app;
   if (!page || x < 0 || y < 0 || x >= page.width || y >= page.height) return;
@@ -227,7 +243,11 @@ function toggleCompare() {
   other.map.setView(view.map.getCenter(), view.map.getZoom(), { animate: false });
 }
 
-/** Both pictures show the same place. @param {PageView} from @param {PageView} to */
+/**
+ * Both pictures show the same place.
+ * @param {PageView} from
+ * @param {PageView} to
+ */
 function follow(from, to) {
   from.map.on('move', () => {
     if (byId('other').hidden || !to.page || document.activeElement === to.element) return;

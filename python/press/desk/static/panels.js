@@ -24,7 +24,10 @@ const SETTINGS = /** @type {[string, string, number, number, number, string][]} 
   ['TrapColorScaling', 'Trap colour scaling', 0, 1, 0.05, ''],
 ]);
 
-/** @param {any} app @param {any} on */
+/**
+ * @param {any} app
+ * @param {any} on
+ */
 export function showPanels(app, on) {
   const focused = document.activeElement?.id;
   showInks(app, on);
@@ -36,7 +39,10 @@ export function showPanels(app, on) {
   if (focused) byId(focused)?.focus();
 }
 
-/** @param {any} app @param {any} on */
+/**
+ * @param {any} app
+ * @param {any} on
+ */
 function showInks(app, on) {
   const { page } = app, perMillimetre = page.dpi / 25.4;
   const head = element('tr', {}, ['Plate', 'Off, across', 'Off, down'].map((text) => element('th', { textContent: text, scope: 'col' })));
@@ -63,7 +69,13 @@ function showInks(app, on) {
   byId('inks').replaceChildren(head, ...rows);
 }
 
-/** A number and a slider for one value. @param {string} id @param {any[]} setting @param {number} value @param {(value: number) => void} set */
+/**
+ * A number and a slider for one value.
+ * @param {string} id
+ * @param {any[]} setting
+ * @param {number} value
+ * @param {(value: number) => void} set
+ */
 function control(id, [, label, least, most, step, unit], value, set) {
   const shown = (value / SCALE).toFixed(2).replace(/0$/, '');
   const number = element('input', { type: 'number', id, min: least, max: most, step, value: shown });
@@ -75,13 +87,19 @@ function control(id, [, label, least, most, step, unit], value, set) {
   return element('div', { className: 'setting' }, [element('label', { htmlFor: id, textContent: unit ? `${label} (${unit})` : label }), number, slider]);
 }
 
-/** @param {any} page @param {any} on */
+/**
+ * @param {any} page
+ * @param {any} on
+ */
 function showSettings(page, on) {
   byId('settings').replaceChildren(...SETTINGS.map((setting) => control(`set-${setting[0]}`, setting, page.settings[setting[0]],
     (value) => on.edit((/** @type {any} */ edits) => { edits.settings[setting[0]] = value; }))));
 }
 
-/** @param {any} app @param {any} on */
+/**
+ * @param {any} app
+ * @param {any} on
+ */
 function showZones(app, on) {
   const { page } = app;
   byId('zones').replaceChildren(...page.edits.zones.map((/** @type {any} */ zone, /** @type {number} */ k) => {
@@ -111,7 +129,13 @@ function showZones(app, on) {
   }));
 }
 
-/** Corners as numbers, in millimetres from the page's top left corner, for those who do not drag. @param {any} page @param {any} zone @param {number} k @param {any} change */
+/**
+ * Corners as numbers, in millimetres from the page's top left corner, for those who do not drag.
+ * @param {any} page
+ * @param {any} zone
+ * @param {number} k
+ * @param {any} change
+ */
 function corners(page, zone, k, change) {
   const perMillimetre = page.dpi / 25.4;
   return element('div', {}, zone.points.map((/** @type {number[]} */ point, /** @type {number} */ c) => element('div', { className: 'row' }, [0, 1].map((axis) => {
@@ -122,7 +146,10 @@ function corners(page, zone, k, change) {
   }))));
 }
 
-/** @param {any} page @param {any} on */
+/**
+ * @param {any} page
+ * @param {any} on
+ */
 function showFindings(page, on) {
   const findings = page.findings || [];
   byId('findings').replaceChildren(...(findings.length ? findings.map((/** @type {any} */ finding) => {
@@ -134,7 +161,10 @@ function showFindings(page, on) {
   }) : [element('li', { className: 'dim', textContent: 'Preflight found nothing to report.' })]));
 }
 
-/** @param {any} page @param {any} on */
+/**
+ * @param {any} page
+ * @param {any} on
+ */
 function showApproval(page, on) {
   const { approval, notes } = page;
   const said = !approval ? 'Not approved yet.' : `${approval.verdict} by ${approval.name}, ${approval.time}${approval.current ? '' : ': out of date, the page has changed since'}`;
@@ -162,7 +192,10 @@ function showDownloads(page) {
     [element('a', { href: `/api/pages/${page.id}/download/${one.kind}`, textContent: one.title, download: '' })])));
 }
 
-/** @param {any} page @param {any} answer */
+/**
+ * @param {any} page
+ * @param {any} answer
+ */
 export function showWhy(page, answer) {
   const tint = (/** @type {number} */ value) => percent(value / page.maxval);
   const head = element('tr', {}, ['Plate', 'Before', 'After'].map((text, k) => element('th', { textContent: text, scope: 'col', className: k ? 'number' : '' })));

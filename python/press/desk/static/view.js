@@ -14,7 +14,10 @@ const painted = () => new Promise((done) => {
 
 /** One picture of a page. */
 export class PageView {
-  /** @param {HTMLElement} element @param {{click?: (x: number, y: number) => void, fault?: (text: string) => void}} on */
+  /**
+   * @param {HTMLElement} element
+   * @param {{click?: (x: number, y: number) => void, fault?: (text: string) => void}} on
+   */
   constructor(element, on = {}) {
     this.element = element;
     this.on = on;
@@ -36,7 +39,10 @@ export class PageView {
     this.map.on('moveend', () => this.moved());
   }
 
-  /** Shows a page; the place on it stays if it has the same size. @param {any} page */
+  /**
+   * Shows a page; the place on it stays if it has the same size.
+   * @param {any} page
+   */
   open(page) {
     const isSame = this.page && this.page.id === page.id;
     const keepsPlace = this.page && this.page.width === page.width && this.page.height === page.height;
@@ -57,13 +63,19 @@ export class PageView {
 
   fit() { this.map.fitBounds([[0, 0], [this.page.height, this.page.width]]); }
 
-  /** The tile's address has the version, so that the browser keeps tiles for ever. @param {{x: number, y: number, z: number}} at */
+  /**
+   * The tile's address has the version, so that the browser keeps tiles for ever.
+   * @param {{x: number, y: number, z: number}} at
+   */
   address(at) {
     const version = this.mode === 'before' ? 0 : this.page.shown;
     return `/api/pages/${this.page.id}/tiles/${this.mode}/${this.page.epoch}-${version}/${this.shownInks}/${Math.max(0, -at.z)}/${at.x}/${at.y}`;
   }
 
-  /** Leaflet gives each tile its full size; one at the page's border is smaller. @param {any} event */
+  /**
+   * Leaflet gives each tile its full size; one at the page's border is smaller.
+   * @param {any} event
+   */
   fitTile({ tile, coords }) {
     const size = this.tiles.getTileSize(), scale = 2 ** Math.max(0, -coords.z);
     const share = (/** @type {number} */ side, /** @type {number} */ at) => Math.min(TILE, Math.ceil(side / scale) - at * TILE) / TILE;
@@ -83,7 +95,10 @@ export class PageView {
     return Promise.all(waits);
   }
 
-  /** @param {string} mode @param {number} shownInks */
+  /**
+   * @param {string} mode
+   * @param {number} shownInks
+   */
   async show(mode, shownInks) {
     this.mode = mode;
     this.shownInks = shownInks;
@@ -158,7 +173,11 @@ export class PageView {
     this.times.push({ total: await painted() - start, bytes: data.byteLength });
   }
 
-  /** Changed pixels over the picture before: first all places, then all colours. @param {Uint32Array} base @param {Uint32Array} changes */
+  /**
+   * Changed pixels over the picture before: first all places, then all colours.
+   * @param {Uint32Array} base
+   * @param {Uint32Array} changes
+   */
   over(base, changes) {
     const pixels = base.slice(), count = changes.length / 2;
     for (let k = 0; k < count; k += 1) pixels[changes[k]] = changes[count + k];
