@@ -153,6 +153,20 @@ def built_program(name: str, build: bool) -> str:
     return done.stdout.decode().strip()
 
 
+def library() -> str | None:
+    """The path of libtrap.so.1: the file that TRAP_LIBRARY names; else the one beside the Python package that
+    calls it; else the repository's, if it is built or released there. None leaves the search to the system."""
+    named = os.environ.get("TRAP_LIBRARY")
+    if named:
+        return named
+    beside, built, released = (os.path.join(TOP, *parts, "libtrap.so.1") for parts in (
+        ("python", "trapping"), ("library", "out"), ("out", "release")))
+    release = os.path.join(TOP, "tools", "release")
+    if not any(os.path.isfile(place) for place in (beside, built, released)) and is_program(release):
+        run([release, "--unpack", "trap_c"])
+    return next((place for place in (beside, built, released) if os.path.isfile(place)), None)
+
+
 def has_program(name: str) -> bool:
     """Whether a trapping program is there."""
     try:

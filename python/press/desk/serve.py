@@ -12,8 +12,10 @@ import webbrowser
 from collections.abc import Callable
 from dataclasses import dataclass
 
+import trapping
 import uvicorn
 
+from press import tools
 from press.errors import PressError, Status, UsageError, reason
 from press.files import need_folder, table_lines
 
@@ -112,11 +114,24 @@ def bound_socket(where: Where) -> socket.socket:
     return made
 
 
+def find_library() -> None:
+    """Has the Python library find libtrap, and refuses to serve without it."""
+    path = tools.library()
+    if path:
+        os.environ["TRAP_LIBRARY"] = path
+    try:
+        trapping.library_version()
+    except ImportError as fault:
+        raise PressError(Status.NO_TOOL, "the library libtrap.so.1 is not there (Debian: apt install libtrap1)"
+                         ) from fault
+
+
 def serve(folder: str, where: Where, opens_browser: bool, say: Callable[[str], None]) -> None:
     """Serves a folder until a signal comes. `say` gets the line with the address."""
     need_folder(folder)
     if not os.access(folder, os.W_OK):
         raise PressError(Status.OUTPUT, "cannot be written to", folder)
+    find_library()
     token = where.token()
     address = f"http://{bracketed(where.host)}:{where.port}/" + (f"?token={token}" if token else "")
     with bound_socket(where) as listening:

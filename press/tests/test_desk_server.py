@@ -1,0 +1,402 @@
+# SPDX-License-Identifier: Apache-2.0
+"""The trap editor's server, without a browser: pages that are made here, changes, conflicts, and whoever may not ask."""
+import asyncio
+import hashlib
+import os
+import shutil
+import socket
+import subprocess
+import time
+from dataclasses import replace
+from pathlib import Path
+
+import pytest
+
+np = pytest.importorskip("numpy")
+pytest.importorskip("PIL.Image")
+testclient = pytest.importorskip("starlette.testclient")
+
+from press import engine, tools  # noqa: E402
+from press.folder import PageFolder, PageSource, write_table  # noqa: E402
+from press.inks import Ink  # noqa: E402
+from press.job import write_job  # noqa: E402
+from press.plates import write_pgm  # noqa: E402
+from press.settings import Settings  # noqa: E402
+
+LIBRARY = tools.library()
+pytestmark = [pytest.mark.plain, pytest.mark.skipif(
+    LIBRARY is None or not tools.has_program("trap"), reason="libtrap or the program trap is not built")]
+if LIBRARY:
+    os.environ.setdefault("TRAP_LIBRARY", LIBRARY)
+
+from press.desk.guard import LOOPBACK, allowed_hosts  # noqa: E402
+from press.desk.page import DeskPage  # noqa: E402
+from press.desk.server import application  # noqa: E402
+from press.desk.store import Store  # noqa: E402
+from press.desk.uploads import plain_name  # noqa: E402
+
+PORT = 8631
+BASE = f"http://127.0.0.1:{PORT}"
+WIDTH, HEIGHT, DPI = 160, 120, 72
+SECONDS = 60
+
+
+def make_page(folder: Path, maxval: int = 255) -> Path:
+    """A trapped page: a cyan disc on magenta, black type-like bars, and an empty yellow plate."""
+    folder.mkdir(parents=True)
+    rows, columns = np.mgrid[:HEIGHT, :WIDTH]
+    disc = (rows - 60) ** 2 + (columns - 60) ** 2 < 40 ** 2
+    bars = (columns > 110) & (columns // 4 % 2 == 0)
+    marks = {"Cyan": disc, "Magenta": ~disc, "Yellow": np.zeros_like(disc), "Black": bars}
+    inks = tuple(Ink(name, name.encode(), name.encode(), density, has_ink=bool(marks[name].any()))
+                 for name, density in (("Cyan", "0.61"), ("Magenta", "0.76"), ("Yellow", "0.16"), ("Black", "1.70")))
+    for name, mark in marks.items():
+        write_pgm(str(folder / f"{name}.pgm"), np.where(mark, 0, maxval).astype("u1" if maxval < 256 else ">u2"), maxval)
+    source = PageSource(b"made.pdf", 1, DPI)
+    (folder / "page.job").write_bytes(write_job(source, inks, []).text.replace(
+        b"showpage", b"<< /TrapWidth 2 >> settrapparams\nshowpage"))
+    write_table(str(folder), source, inks)
+    engine.trap(PageFolder.read(str(folder)), Settings())
+    return folder
+
+
+@pytest.fixture(name="folder")
+def fixture_folder(tmp_path):
+    """A folder with one job of one page."""
+    make_page(tmp_path / "jobs" / "made" / "page-001")
+    return tmp_path / "jobs"
+
+
+@pytest.fixture(name="client")
+def fixture_client(folder):
+    """A browser without a window."""
+    with open_client(folder) as client:
+        yield client
+
+
+def open_client(folder, token=None):
+    """A browser of a server of its own."""
+    app = application(Store(str(folder)), allowed_hosts(LOOPBACK, PORT), token)
+    return testclient.TestClient(app, base_url=BASE, headers={"origin": BASE})
+
+
+def page_of(client):
+    """The id of the only page."""
+    (job,) = client.get("/api/jobs").json()
+    return job["pages"][0]["id"]
+
+
+def change(client, key, settings=None, zones=(), version=None):
+    """Edits a page on its newest version, or on one that is given."""
+    version = version or client.get(f"/api/pages/{key}").json()["version"]
+    edits = {"settings": settings or {}, "zones": list(zones), "inks": {}}
+    return client.post(f"/api/pages/{key}/edits", json={"version": version, "edits": edits})
+
+
+def wait_until_shown(client, key):
+    """The page once its plates are those of its job."""
+    end = time.monotonic() + SECONDS
+    while time.monotonic() < end:
+        page = client.get(f"/api/pages/{key}").json()
+        if page["version"] == page["shown"]:
+            return page
+        time.sleep(0.05)
+    raise AssertionError("the page was not trapped")
+
+
+def trapped_by_command(page: Path, scratch: Path) -> dict[str, bytes]:
+    """The files that the engine makes of a copy of the page's folder."""
+    shutil.copytree(page, scratch)
+    engine.trap(PageFolder.read(str(scratch)), Settings())
+    return files_of(scratch)
+
+
+def files_of(page: Path) -> dict[str, bytes]:
+    """The trapped plates and reports of a page."""
+    return {one.name: one.read_bytes() for one in (page / "trapped").iterdir()}
+
+
+def zone(**settings):
+    """A rectangular zone with settings of its own."""
+    return {"name": "panel", "points": [[20, 20], [100, 20], [100, 80], [20, 80]], "settings": settings, "overImages": False}
+
+
+def view(client, key, **more):
+    """The pixels of a part of the page."""
+    asked = {"left": 5, "top": 7, "width": 140, "height": 100, "mode": "after", "inks": 65535, **more}
+    answer = client.post(f"/api/pages/{key}/view", json=asked)
+    assert answer.status_code == 200, answer.text
+    return np.frombuffer(answer.content, "u4")
+
+
+def test_a_page_is_described(client):
+    """Sides, inks and settings as the folder has them."""
+    page = client.get(f"/api/pages/{page_of(client)}").json()
+    assert (page["width"], page["height"], page["dpi"]) == (WIDTH, HEIGHT, DPI)
+    assert [ink["title"] for ink in page["inks"]] == ["Cyan", "Magenta", "Yellow", "Black"]
+    assert page["settings"]["TrapWidth"] == 20_000 and page["edits"] == {"settings": {}, "zones": [], "inks": {}}
+
+
+@pytest.mark.parametrize("settings, zones", [({"TrapWidth": 40_000}, ()), ({"TrapWidth": 30_000, "BlackWidth": 20_000}, ()),
+                                             ({}, (zone(TrapWidth=50_000),)), ({}, (zone(Enabled=False),))])
+def test_a_change_is_that_of_the_command(client, folder, tmp_path, settings, zones):
+    """At once in the view, and when the page is done in every file, byte for byte."""
+    key, page = page_of(client), folder / "made" / "page-001"
+    before = view(client, key)
+    answer = change(client, key, settings, zones)
+    assert answer.status_code == 200 and answer.json()["version"] == 2
+    live = view(client, key)
+    wait_until_shown(client, key)
+    assert np.array_equal(live, view(client, key)) and not np.array_equal(live, before)
+    assert files_of(page) == trapped_by_command(page, tmp_path / "again")
+
+
+def test_a_zone_changes_pixels_inside_it_alone(client, folder):
+    """With traps off also as far outside as the page's trap reaches: half a pixel more than its width, cut."""
+    key = page_of(client)
+    plates = [np.array(one) for one in PageFolder.read(str(folder / "made" / "page-001")).plates(True).arrays]
+    change(client, key, {}, (zone(Enabled=False),))
+    wait_until_shown(client, key)
+    now = PageFolder.read(str(folder / "made" / "page-001")).plates(True).arrays
+    changed = np.any([old != new for old, new in zip(plates, now)], axis=0)
+    rows, columns = np.nonzero(changed)
+    far = np.maximum.reduce([20 - columns, columns - 99, 20 - rows, rows - 79, np.zeros_like(rows)])
+    assert changed.any() and far.max() <= int(2 * DPI / 72 + 0.5)
+
+
+def test_the_second_of_two_changes_on_one_version_is_refused(client):
+    """Nothing is lost: the first stands, and the second is told of it."""
+    key = page_of(client)
+    assert change(client, key, {"TrapWidth": 30_000}, version=1).status_code == 200
+    answer = change(client, key, {"TrapWidth": 50_000}, version=1)
+    assert answer.status_code == 409 and "newest is 2" in answer.json()["error"]
+    assert client.get(f"/api/pages/{key}").json()["settings"]["TrapWidth"] == 30_000
+
+
+def test_undo_and_redo_give_the_job_back_byte_for_byte(client, folder):
+    """The job's file too."""
+    key, job = page_of(client), folder / "made" / "page-001" / "page.job"
+    first = job.read_bytes()
+    change(client, key, {"TrapWidth": 30_000}, (zone(TrapWidth=10_000),))
+    second = job.read_bytes()
+    assert client.post(f"/api/pages/{key}/undo", json={"version": 2}).json()["canRedo"]
+    assert job.read_bytes() == first != second
+    assert client.post(f"/api/pages/{key}/redo", json={"version": 3}).json()["edits"]["zones"][0]["name"] == "panel"
+    assert job.read_bytes() == second
+    assert client.post(f"/api/pages/{key}/redo", json={"version": 4}).status_code == 400
+
+
+@pytest.mark.parametrize("settings, zones, status", [
+    ({"TrapWidth": 2_000_000}, (), 422), ({"TrapWidth": 0}, (), 422), ({"Colour": 1}, (), 400), ({"Enabled": 1}, (), 400),
+    ({}, ({**zone(), "points": [[0, 0], [5, 5]]},), 400), ({}, ({**zone(), "points": [["a", 0]] * 3},), 400),
+    ({}, (zone(),) * 201, 400)])
+def test_bad_edits_are_refused_and_change_nothing(client, folder, settings, zones, status):
+    """With a line that says why; the job stays."""
+    key, job = page_of(client), folder / "made" / "page-001" / "page.job"
+    before = job.read_bytes()
+    answer = change(client, key, settings, zones)
+    assert answer.status_code == status and answer.json()["error"]
+    assert job.read_bytes() == before and client.get(f"/api/pages/{key}").json()["version"] == 1
+
+
+def test_a_view_of_changes_is_the_view(client):
+    """The changed pixels over the picture before are the picture after."""
+    key = page_of(client)
+    change(client, key, {"TrapWidth": 60_000})
+    picture, changes = view(client, key, mode="before").copy(), view(client, key, delta=True)
+    count = changes.size // 2
+    picture[changes[:count]] = changes[count:]
+    assert count and np.array_equal(picture, view(client, key))
+
+
+def test_plates_out_of_register_are_drawn_so(client):
+    """A plate that is moved by whole pixels; paper comes in at the border."""
+    key, shifts = page_of(client), [[3, -2], [0, 0], [0, 0], [0, 0]]
+    still = view(client, key, inks=1, left=0, top=0, width=WIDTH, height=HEIGHT).reshape(HEIGHT, WIDTH)
+    moved = view(client, key, inks=1, left=0, top=0, width=WIDTH, height=HEIGHT, shifts=shifts).reshape(HEIGHT, WIDTH)
+    assert np.array_equal(moved[:-2, 3:], still[2:, :-3]) and set(moved[:, 0]) == {0xFFFFFFFF}
+
+
+@pytest.mark.parametrize("bad", [{"width": 0}, {"left": 155}, {"width": 99_999}, {"mode": "odd"}, {"left": "x"},
+                                 {"shifts": [[1, 1]]}, {"shifts": [[9_999, 0]] * 4}])
+def test_bad_views_are_refused(client, bad):
+    """Status 400, and a line."""
+    asked = {"left": 5, "top": 7, "width": 100, "height": 100, "mode": "after", "inks": 15, **bad}
+    answer = client.post(f"/api/pages/{page_of(client)}/view", json=asked)
+    assert answer.status_code == 400 and answer.json()["error"]
+
+
+def test_tiles_have_the_pixels_of_the_plates(client):
+    """A PNG for each picture; none outside the page."""
+    key = page_of(client)
+    for mode in ("before", "after", "traps"):
+        answer = client.get(f"/api/pages/{key}/tiles/{mode}/v/15/0/0/0")
+        assert answer.status_code == 200 and answer.content[:4] == b"\x89PNG" and "immutable" in answer.headers["cache-control"]
+    for bad in ("after/v/15/0/9/9", "odd/v/15/0/0/0", "after/v/15/99/0/0"):
+        assert client.get(f"/api/pages/{key}/tiles/{bad}").status_code == 404
+
+
+def test_why_gives_the_tints_of_the_plates(client, folder):
+    """Of pixels everywhere, before and after."""
+    key, page = page_of(client), PageFolder.read(str(folder / "made" / "page-001"))
+    inked = [k for k, ink in enumerate(page.inks) if ink.has_ink]
+    before, after = page.plates().arrays, page.plates(True).arrays
+    for x in range(0, WIDTH, 13):
+        answer = client.get(f"/api/pages/{key}/why/{x}/{x % HEIGHT}").json()
+        assert answer["before"] == [255 - int(before[k][x % HEIGHT, x]) for k in inked]
+        assert answer["after"] == [255 - int(after[k][x % HEIGHT, x]) for k in inked]
+    assert client.get(f"/api/pages/{key}/why/{WIDTH}/0").status_code == 404
+
+
+def test_an_approval_lapses_with_any_change(client):
+    """It has a name and a time, and is out of date once the page differs."""
+    key = page_of(client)
+    said = client.post(f"/api/pages/{key}/approval", json={"verdict": "approved", "name": "Ada", "version": 1}).json()
+    assert said["approval"]["current"] and said["approval"]["name"] == "Ada"
+    change(client, key, {"TrapWidth": 30_000})
+    assert not wait_until_shown(client, key)["approval"]["current"]
+    client.post(f"/api/pages/{key}/undo", json={"version": 2})
+    assert wait_until_shown(client, key)["approval"]["current"]
+    for bad in ({"verdict": "fine", "name": "Ada", "version": 3}, {"verdict": "approved", "name": " ", "version": 3},
+                {"verdict": "approved", "name": "Ada", "version": 1}):
+        assert client.post(f"/api/pages/{key}/approval", json=bad).status_code == 400
+
+
+def test_notes_stay(client, folder):
+    """Over a restart too, and what else the record holds stays with them."""
+    key, record = page_of(client), folder / "made" / "job.json"
+    record.write_text('{"source": {"name": "made.pdf"}}')
+    client.post(f"/api/pages/{key}/notes", json={"text": "thin type", "place": [12, 34]})
+    with open_client(folder) as again:
+        (note,) = again.get(f"/api/pages/{key}").json()["notes"]
+    assert note["text"] == "thin type" and note["place"] == [12, 34] and '"made.pdf"' in record.read_text()
+    assert client.post(f"/api/pages/{key}/notes", json={"text": "x", "place": [9999, 0]}).status_code == 400
+
+
+def test_a_restart_takes_up_the_page_where_it_was(folder, tmp_path):
+    """A job that was changed while the server ended is trapped when the page is opened again."""
+    page, key = folder / "made" / "page-001", None
+    with open_client(folder) as client:
+        key = page_of(client)
+        change(client, key, {"TrapWidth": 50_000}, (zone(TrapWidth=10_000),))
+    with open_client(folder) as client:
+        found = wait_until_shown(client, key)
+        assert found["settings"]["TrapWidth"] == 50_000 and found["edits"]["zones"][0]["settings"] == {"TrapWidth": 10_000}
+        opened = DeskPage(str(page))
+        end = time.monotonic() + SECONDS
+        while opened.is_behind() and time.monotonic() < end:
+            time.sleep(0.05)
+    assert files_of(page) == trapped_by_command(page, tmp_path / "again")
+
+
+def test_two_browsers_see_each_others_changes(client):
+    """An event of the change, and one when the page is done."""
+    key = page_of(client)
+    with client.websocket_connect("/api/events", headers={"host": f"127.0.0.1:{PORT}"}) as socket:
+        change(client, key, {"TrapWidth": 30_000})
+        events = [socket.receive_json()]
+        while events[-1]["kind"] != "shown":
+            events.append(socket.receive_json())
+    assert events[0] == {"kind": "changed", "page": key, "version": 2} and events[-1]["version"] == 2
+
+
+def test_whoever_may_not_ask_is_refused(client):
+    """Another host, another port, a change from another origin or from none."""
+    key = page_of(client)
+    for host in ("evil.example:8631", "127.0.0.1:80", "127.0.0.1", ""):
+        assert client.get("/api/jobs", headers={"host": host}).status_code == 403
+    for origin in ("http://evil.example", "null", f"http://127.0.0.1:{PORT + 1}", ""):
+        answer = client.post(f"/api/pages/{key}/undo", json={"version": 1}, headers={"origin": origin})
+        assert answer.status_code == 403
+
+
+def test_with_a_token_only_who_has_it_is_answered(folder):
+    """The address with the token sets a cookie that scripts cannot read, and other sites do not send."""
+    with open_client(folder, "a-long-enough-token") as client:
+        assert client.get("/api/jobs").status_code == 403
+        assert client.get("/?token=wrong").status_code == 403
+        welcome = client.get("/?token=a-long-enough-token", follow_redirects=False)
+        assert welcome.status_code == 303 and "token" not in welcome.headers["location"]
+        assert "HttpOnly" in welcome.headers["set-cookie"] and "samesite=strict" in welcome.headers["set-cookie"].lower()
+        assert client.get("/api/jobs").status_code == 200
+
+
+def test_no_id_leads_out_of_the_folder(client):
+    """Ids of pages that are there, and nothing else."""
+    for key in ("..", "%2e%2e", "..%2f..%2fetc", "0" * 16, "made/page-001"):
+        assert client.get(f"/api/pages/{key}").status_code == 404
+    assert client.get("/static/../server.py").status_code == 404
+
+
+@pytest.mark.parametrize("name, plain", [("../../etc/passwd", "passwd.pdf"), ("a/b\\c.PDF", "c.PDF"), ("", "upload.pdf"),
+                                         ("..", "upload.pdf"), ("täg 1.pdf", "täg 1.pdf"), ("x\n\0.pdf", "x__.pdf"),
+                                         ("n" * 300 + ".pdf", "n" * 100 + ".pdf")])
+def test_a_name_from_a_browser_is_a_plain_name(name, plain):
+    """No folder, no control character, no hidden file, and a bounded length."""
+    assert plain_name(name) == plain
+
+
+def test_sixteen_bit_plates_are_edited_too(tmp_path):
+    """The view is that of the trapped page."""
+    make_page(tmp_path / "jobs" / "deep" / "page-001", 65_535)
+    with open_client(tmp_path / "jobs") as client:
+        key = page_of(client)
+        change(client, key, {"TrapWidth": 50_000})
+        live = view(client, key)
+        wait_until_shown(client, key)
+        assert np.array_equal(live, view(client, key))
+
+
+def test_a_hostile_file_ends_in_a_message(client, folder):
+    """What is no PDF becomes a job that failed, with a line; nothing is left beside it."""
+    if not shutil.which("gs"):
+        pytest.skip("Ghostscript is not installed")
+    answer = client.post("/api/jobs?name=bad.pdf", content=b"%PDF-1.7 not really")
+    assert answer.status_code == 200
+    end, job = time.monotonic() + SECONDS, {"state": "waiting"}
+    while job["state"] in ("waiting", "running") and time.monotonic() < end:
+        job = next(one for one in client.get("/api/jobs").json() if one["id"] == answer.json()["id"])
+        time.sleep(0.1)
+    assert job["state"] == "failed" and job["message"]
+    assert not [one.name for one in folder.iterdir() if one.name.startswith(".")]
+    assert client.post("/api/jobs?name=empty.pdf", content=b"").status_code == 413
+
+
+def free_port() -> int:
+    """A port that nobody uses now."""
+    with socket.socket() as probe:
+        probe.bind(("127.0.0.1", 0))
+        return int(probe.getsockname()[1])
+
+
+def test_the_command_serves_and_ends(folder):
+    """It prints its address, refuses a port that is taken, and ends when it is told to though a browser listens."""
+    websockets = pytest.importorskip("websockets")
+    port = free_port()
+    command = [str(Path(tools.PRESS) / "desk"), str(folder), "--no-open", "--port", str(port)]
+
+    async def listen_while_it_ends(server):
+        async with websockets.connect(f"ws://127.0.0.1:{port}/api/events", origin=f"http://127.0.0.1:{port}") as events:
+            server.terminate()
+            await events.wait_closed()
+    with subprocess.Popen(command, stdout=subprocess.PIPE, text=True) as server:
+        try:
+            assert server.stdout is not None and server.stdout.readline().strip() == f"http://127.0.0.1:{port}/"
+            taken = subprocess.run(command, capture_output=True, text=True, check=False)
+            assert taken.returncode == 8 and str(port) in taken.stderr
+            asyncio.run(listen_while_it_ends(server))
+        finally:
+            server.terminate()
+        assert server.wait(SECONDS) == 0
+
+
+def test_digests_of_pages_differ(folder):
+    """Nothing of a page can change without its digest."""
+    page = DeskPage(str(folder / "made" / "page-001"))
+    first = Store._digest(page)  # pylint: disable=protected-access
+    plate = Path(page.folder.plate(page.folder.inks[0], True))
+    data = bytearray(plate.read_bytes())
+    data[-1] ^= 1
+    plate.write_bytes(data)
+    assert Store._digest(page) != first and len(first) == len(hashlib.sha256().hexdigest())  # pylint: disable=protected-access
+    assert replace(page.folder, path="x") != page.folder
