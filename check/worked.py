@@ -6,7 +6,7 @@ Each value was worked out by hand from the rule or the public format, and none i
 """
 import sys
 
-from slow import run
+from slow import run, trapkeep
 from slow.entries import S
 from slow.outside import Held
 from slow.pages import zone_reach
@@ -420,8 +420,96 @@ def pool():
     check("the longest list", (run("trappool", ["2", "list"], outside), outside.told), (9, "job 0: read fault: job\n"))
 
 
+def keep(options, plates, names=("Cyan", "Black"), more="", resolution=72, width=None, end="showpage"):
+    """Runs `trapkeep` on tints, in one row or in rows of `width`: the status and line, the new tints, the report."""
+    width = width or len(plates[0])
+    files = {name: plate(width, len(tints) // width, bytes(255 - tint for tint in tints).hex())
+             for name, tints in zip(names, plates)}
+    outside = Held(dict(files, job=job("", more, resolution, end)))
+    words = [*options, "job", "report", *("%s:%s:%s.out" % (name, name, name) for name in names)]
+    status = run("trapkeep", words, outside)
+    new = [outside.files.get(name + ".out") for name in names]
+    report = outside.files.get("report", b"").decode().splitlines()
+    return (status, outside.told), [data and [255 - byte for byte in data[-len(plates[0]):]] for data in new], report
+
+
+def rich_black():
+    """Widths in points at 72 dpi are pixels. Black begins at the fourth pixel, and cyan lies under it."""
+    black, under = [0, 0, 0, 255, 255, 255, 255, 255], [0, 0, 0, 255, 255, 255, 255, 255]
+    for width, back in (("0", 0), ("0.4999", 0), ("0.5", 1), ("1", 1), ("1.4999", 1), ("1.49999", 1), ("1.5", 2),
+                        ("2.", 2), ("4.4", 4), ("4.5", 5), ("100", 5)):
+        told, new, report = keep(["--rich-black", width], [under, black])
+        check("drawn back by " + width, (told, new), ((0, ""), [[0] * (3 + back) + [255] * (5 - back), black]))
+        check("the report", report, ["keepaway report", "page 8 1 255 plates 2", "covered 5",
+                                     "plate Cyan rich-black %d underprint 0" % back,
+                                     "plate Black rich-black 0 underprint 0", "end"])
+    for tints, least in (([255] * 8, 255), ([100] * 8, 100), ([60] * 3 + [200] * 5, 60), ([60] * 3 + [40] * 5, 40)):
+        wanted = tints[:3] + [min(least, tints[3])] + tints[4:]
+        check("what goes on", keep(["--rich-black", "1"], [tints, black])[1], [wanted, black])
+    for tint, is_black in ((217, True), (216, False)):
+        gray = [0, 0, 0] + [tint] * 5
+        wanted = [[0] * (3 + is_black) + under[3 + is_black:], gray]
+        check("at the limit", keep(["--rich-black", "1"], [under, gray])[1], wanted)
+    half = [0, 0, 0] + [128] * 5
+    check("its own limit", keep(["--rich-black", "1", "--black-limit", "0.5"], [under, half])[1][0][3], 0)
+    for gray, wanted in (([0, 128, 255, 255], [0, 0, 255, 255]), ([0, 128, 128, 255], [0, 255, 255, 255])):
+        check("a rim", keep(["--rich-black", ".5"], [[0, 255, 255, 255], gray])[1][0], wanted)
+    check("spared", keep(["--rich-black", "1", "--except", "Cyan"], [under, black])[1], [under, black])
+    check("off", keep(["--rich-black", "1"], [under, black], end="<< /Enabled false >> settrapparams showpage")[1],
+          [under, black])
+    for width, count in (("0.9", 4), ("0.92", 8), ("1.49", 8), ("1.5", 12), ("1.8", 20), ("2.4", 24)):
+        ring = [0 if place == 12 else 255 for place in range(25)]
+        report = keep(["--rich-black", width], [ring, ring], width=5)[2]
+        check("a hole in black, " + width, report[3:4], ["plate Cyan rich-black %d underprint 0" % count])
+
+
+def underprint():
+    """White under cyan, which counts as colour; the varnish does not."""
+    names, more = ("Cyan", "White"), "/White << /NeutralDensity .06 /ColorantType /Transparent >> "
+
+    def drawn(width, white, cyan):
+        told, new, _ = keep(["--underprint", "White=" + width], [cyan, white], names, more)
+        check("told", told, (0, ""))
+        return new[1]
+    shape = [0, 0] + [255] * 8
+    check("beside film", drawn("1", shape, shape), [0, 0, 0] + [255] * 7)
+    check("beside white", drawn("1", [255] * 10, [0] * 5 + [255] * 5), [255] * 10)
+    check("white alone", drawn("2", shape, [0] * 10), shape)
+    for tint, back in ((26, 1), (25, 0)):
+        check("a tenth", drawn("1", shape, [0, 0] + [tint] * 8), [0, 0] + [0] * back + [255] * (8 - back))
+    for count, width, left in ((2, "1", 2), (3, "1", 1), (3, "2", 1), (5, "2", 3), (5, "1", 3), (6, "2", 2),
+                               (8, "2", 4), (8, "3", 4)):
+        thin = [0] * 4 + [255] * count + [0] * 4
+        wanted = [0] * (4 + (count - left) // 2) + [255] * left + [0] * (4 + (count - left) // 2)
+        check("%d thin, %s" % (count, width), drawn(width, thin, thin), wanted)
+    check("a hole", drawn("1", [255] * 9 + [0, 0], [255] * 4 + [0] + [255] * 4 + [0, 0]), [255] * 8 + [0, 0, 0])
+    report = keep(["--underprint", "White=1"], [shape, shape], names, more)[2]
+    check("the report", report[2:], ["covered 8", "plate Cyan rich-black 0 underprint 0",
+                                     "plate White rich-black 0 underprint 1", "end"])
+
+
+def keep_words():
+    one, plates = ["--rich-black", "1"], [[0, 255], [0, 255]]
+    white = ["--underprint", "Cyan=1"]
+    for number in ("-1", "100.1", "1e1", ".", "", "00000000000000001"):
+        check("a width %r" % number, keep(["--rich-black", number], plates)[0][0], 2)
+    for options in ([], ["--rich-black"], [*one, *one], [*one, "--black-limit", "1.1"], ["--black-limit", "1", *white],
+                    [*one, *white], [*one, "--except", "Red"], [*one, "--except", "Cyan", "--except", "Cyan"],
+                    ["--underprint", "Cyan"], ["--underprint", "Red=1"], [*white, "--underprint", "Cyan=2"],
+                    ["--except", "Cyan"], [*one, "--quiet"], ["--rich-black=1"]):
+        check("words %r" % options, keep(options, plates)[0], (2, "usage: " + trapkeep.USAGE + "\n"))
+    for options in ([*one, "--"], ["--black-limit", ".5", *one, "--except", "Cyan", "--except", "Black"],
+                    ["--underprint", "Cyan=1", "--underprint", "Black=0"], ["--rich-black", "0000000000000.5"]):
+        check("words %r" % options, keep(options, plates)[0], (0, ""))
+    for width, line in (("0.9216", ""), ("0.9217", "keepaway: TooWide\n")):
+        narrow = "<< /TrapWidth .01 >> settrapparams showpage"
+        check("as wide as " + width, keep(["--rich-black", width], plates, resolution=10000, end=narrow)[0],
+              (4 if line else 0, line))
+
+
 TABLES = (two_inks, equally_near, steps, kinds_of_ink, zones, tall, shop, two_bytes, plate_refusals, job_refusals,
-          at_limits, words, samples, room, numbers, headers, widths, sheets, sets, many_pages, press, pool)
+          at_limits, words, samples, room, numbers, headers, widths, sheets, sets, many_pages, press, pool, rich_black,
+          underprint, keep_words)
 
 
 def main():

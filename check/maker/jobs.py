@@ -21,6 +21,29 @@ def job(rng, picture):
     return with_byte_fault(rng, text) if rng.random() < 0.04 else text
 
 
+def keep_job(rng, picture):
+    """A job whose first ink is black in most zones, as bytes."""
+    resolution, inks, zones = rng.choice([72, 72, 36, 144, 600]), [], []
+    for number, name in enumerate(picture.names):
+        density = "1.70" if number == 0 or rng.random() < 0.1 else rng.choice(["0.61", "0.16", "1.6", "1.5999"])
+        kind = rng.choice(["Normal"] * 8 + [*KINDS]) if number or rng.random() < 0.1 else "Normal"
+        inks.append("/%s << /NeutralDensity %s /ColorantType /%s >>" % (name, density, kind))
+    for _ in range(rng.choice([0, 0, 1, 2])):
+        zones.append(keep_zone(rng, 72 / resolution))
+    device = "<< /HWResolution [%d %d] /TrappingDetails << /Type 1001 /ColorantDetails << %s >> >> >> setpagedevice"
+    text = device % (resolution, resolution, " ".join(inks))
+    return ("%s << /TrapWidth .1 >> settrapparams %s showpage" % (text, " ".join(zones))).encode()
+
+
+def keep_zone(rng, pixel):
+    """A box as a zone, in pixels of so many points."""
+    x, y = rng.randint(-2, 4) * pixel, rng.randint(-2, 4) * pixel
+    right, up = rng.randint(2, 40) * pixel, rng.randint(2, 40) * pixel
+    params = (rng.choice(["true", "true", "false"]), rng.choice(["1.6", "1.7", "0.61", "2"]))
+    path = "%.4f %.4f moveto %.4f 0 rlineto 0 %.4f rlineto %.4f 0 rlineto" % (x, y, right, up, -right)
+    return "<< /Enabled %s /BlackDensityLimit %s >> settrapparams " % params + path + " settrapzone"
+
+
 def jobs(rng, pictures):
     """A job of many pages."""
     tokens = []

@@ -45,6 +45,20 @@ def picture(rng, shape=None, names=None):
     return Picture(width, height, maxval, names, planes)
 
 
+def with_type(rng, picture):
+    """The page in two colours: ground, and shapes of several inks whose rims are softer in some of them."""
+    place = layout(rng, picture.width, picture.height)
+    share = [1] + [rng.choice([0, 1, 1, 1, 1]) for _ in picture.names[1:]]
+    ground = [0] + [rng.choice([0, 0, 0, rng.randint(0, picture.maxval)]) for _ in picture.names[1:]]
+    planes = [[] for _ in picture.names]
+    for y in range(picture.height):
+        for x in range(picture.width):
+            level = rng.choice([picture.maxval] * 12 + [rng.randint(0, picture.maxval)]) if place(x, y) % 2 else 0
+            for plane, inked, below in zip(planes, share, ground):
+                plane.append(inked * level if level else below)
+    return picture._replace(planes=planes)
+
+
 def colour(rng, inked, plates, maxval):
     """The tints of one colour, often of one ink alone."""
     levels = [0, maxval, maxval // 2, maxval // 4, 3 * maxval // 4, maxval * 95 // 100, 1, rng.randint(0, maxval)]

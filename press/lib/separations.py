@@ -31,8 +31,7 @@ def separate(path, scratch, page, dpi, box, icc=None, seconds=None):
         if not os.path.lexists(inside):
             os.symlink(os.path.abspath(icc), inside)
         profile = ["-sOutputICCProfile=output.icc", "--permit-file-read=output.icc"]
-    # Ghostscript 10.00 leaves the plates of spots blank on a page with transparency that it draws without bands.
-    words = ["-dBATCH", "-dPDFSTOPONERROR", "-sDEVICE=tiffsep", "-dMaxBitmap=0", f"-r{dpi}", "-dMaxSpots=60", "-dPrintSpotCMYK",
+    words = ["-dBATCH", "-dPDFSTOPONERROR", "-sDEVICE=tiffsep", f"-r{dpi}", "-dMaxSpots=60", "-dPrintSpotCMYK",
              f"-dFirstPage={page}", f"-dLastPage={page}", "-sOutputFile=page.tif", *BOXES[box], *profile, "in.pdf"]
     done = sources.ghostscript(scratch, words, seconds, f"{path}: page {page}: ")
     if done.returncode != 0:

@@ -6,7 +6,6 @@ import subprocess
 from pathlib import Path
 
 import pytest
-from pdf_writer import Pdf, spaces
 from readers import colorants, plate, tiff_plane, tiff_tags
 from room import LABEL, Room, needs
 
@@ -90,14 +89,3 @@ def test_profile(room: Room) -> None:
     room.sample("pair.pdf")
     room.goes("plates", "pair.pdf", "profiled", "--icc", "/usr/share/color/icc/ghostscript/default_cmyk.icc")
     assert plate(room / "profiled" / "Cyan.pgm").shape == (400, 1000)
-
-
-def test_spots_of_a_small_page_with_transparency(room: Room) -> None:
-    """The plate of a spot has the square that the page has, in every size: without bands Ghostscript 10.00 leaves it blank."""
-    file = Pdf()
-    state = "/ExtGState << /Half << /ca .5 >> >> "
-    file.page("/S0 cs 1 scn 10 10 60 30 re f", resources=state + spaces([b"Warm Red"]))
-    room.write("small.pdf", file.bytes())
-    for dpi, samples in (("72", 60 * 30), ("300", 250 * 125)):
-        room.goes("plates", "small.pdf", f"small{dpi}", "--dpi", dpi)
-        assert (plate(room / f"small{dpi}" / "Warm_Red.pgm") == 0).sum() >= samples

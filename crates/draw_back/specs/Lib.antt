@@ -1,0 +1,4 @@
+pub mod Drawn
+pub mod Fields
+pub mod Laws
+pub mod Lowers
