@@ -26,12 +26,13 @@ def pytest_addoption(parser: pytest.Parser) -> None:
 
 
 def pytest_collection_modifyitems(config: pytest.Config, items: list[pytest.Item]) -> None:
-    """The hostile files run by -m worst alone."""
-    if "worst" not in config.getoption("markexpr"):
-        worst = [item for item in items if item.get_closest_marker("worst")]
-        items[:] = [item for item in items if not item.get_closest_marker("worst")]
-        if worst:
-            config.hook.pytest_deselected(items=worst)
+    """The hostile files run by -m worst alone, and the browser by -m browser alone."""
+    for mark in ("worst", "browser"):
+        if mark not in config.getoption("markexpr"):
+            left = [item for item in items if item.get_closest_marker(mark)]
+            items[:] = [item for item in items if not item.get_closest_marker(mark)]
+            if left:
+                config.hook.pytest_deselected(items=left)
 
 
 def program_path(name: str) -> Path | None:

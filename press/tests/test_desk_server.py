@@ -1,13 +1,11 @@
 # SPDX-License-Identifier: Apache-2.0
-"""The trap editor's server, without a browser: pages that are made here, changes, conflicts, and whoever may not ask."""
+"""The trap editor's server without a browser: pages, changes, conflicts, and whoever may not ask."""
 import asyncio
-import hashlib
 import os
 import shutil
 import socket
 import subprocess
 import time
-from dataclasses import replace
 from pathlib import Path
 
 import pytest
@@ -32,7 +30,7 @@ if LIBRARY:
 from press.desk.guard import LOOPBACK, allowed_hosts  # noqa: E402
 from press.desk.page import DeskPage  # noqa: E402
 from press.desk.server import application  # noqa: E402
-from press.desk.store import Store  # noqa: E402
+from press.desk.store import Store, digest_of  # noqa: E402
 from press.desk.uploads import plain_name  # noqa: E402
 
 PORT = 8631
@@ -51,7 +49,8 @@ def make_page(folder: Path, maxval: int = 255) -> Path:
     inks = tuple(Ink(name, name.encode(), name.encode(), density, has_ink=bool(marks[name].any()))
                  for name, density in (("Cyan", "0.61"), ("Magenta", "0.76"), ("Yellow", "0.16"), ("Black", "1.70")))
     for name, mark in marks.items():
-        write_pgm(str(folder / f"{name}.pgm"), np.where(mark, 0, maxval).astype("u1" if maxval < 256 else ">u2"), maxval)
+        tints = np.where(mark, 0, maxval).astype("u1" if maxval < 256 else ">u2")
+        write_pgm(str(folder / f"{name}.pgm"), tints, maxval)
     source = PageSource(b"made.pdf", 1, DPI)
     (folder / "page.job").write_bytes(write_job(source, inks, []).text.replace(
         b"showpage", b"<< /TrapWidth 2 >> settrapparams\nshowpage"))
@@ -118,7 +117,8 @@ def files_of(page: Path) -> dict[str, bytes]:
 
 def zone(**settings):
     """A rectangular zone with settings of its own."""
-    return {"name": "panel", "points": [[20, 20], [100, 20], [100, 80], [20, 80]], "settings": settings, "overImages": False}
+    corners = [[20, 20], [100, 20], [100, 80], [20, 80]]
+    return {"name": "panel", "points": corners, "settings": settings, "overImages": False}
 
 
 def view(client, key, **more):
@@ -137,8 +137,9 @@ def test_a_page_is_described(client):
     assert page["settings"]["TrapWidth"] == 20_000 and page["edits"] == {"settings": {}, "zones": [], "inks": {}}
 
 
-@pytest.mark.parametrize("settings, zones", [({"TrapWidth": 40_000}, ()), ({"TrapWidth": 30_000, "BlackWidth": 20_000}, ()),
-                                             ({}, (zone(TrapWidth=50_000),)), ({}, (zone(Enabled=False),))])
+@pytest.mark.parametrize("settings, zones", [
+    ({"TrapWidth": 40_000}, ()), ({"TrapWidth": 30_000, "BlackWidth": 20_000}, ()),
+    ({}, (zone(TrapWidth=50_000),)), ({}, (zone(Enabled=False),))])
 def test_a_change_is_that_of_the_command(client, folder, tmp_path, settings, zones):
     """At once in the view, and when the page is done in every file, byte for byte."""
     key, page = page_of(client), folder / "made" / "page-001"
@@ -187,7 +188,8 @@ def test_undo_and_redo_give_the_job_back_byte_for_byte(client, folder):
 
 
 @pytest.mark.parametrize("settings, zones, status", [
-    ({"TrapWidth": 2_000_000}, (), 422), ({"TrapWidth": 0}, (), 422), ({"Colour": 1}, (), 400), ({"Enabled": 1}, (), 400),
+    ({"TrapWidth": 2_000_000}, (), 422), ({"TrapWidth": 0}, (), 422), ({"Colour": 1}, (), 400),
+    ({"Enabled": 1}, (), 400),
     ({}, ({**zone(), "points": [[0, 0], [5, 5]]},), 400), ({}, ({**zone(), "points": [["a", 0]] * 3},), 400),
     ({}, (zone(),) * 201, 400)])
 def test_bad_edits_are_refused_and_change_nothing(client, folder, settings, zones, status):
@@ -213,7 +215,8 @@ def test_plates_out_of_register_are_drawn_so(client):
     """A plate that is moved by whole pixels; paper comes in at the border."""
     key, shifts = page_of(client), [[3, -2], [0, 0], [0, 0], [0, 0]]
     still = view(client, key, inks=1, left=0, top=0, width=WIDTH, height=HEIGHT).reshape(HEIGHT, WIDTH)
-    moved = view(client, key, inks=1, left=0, top=0, width=WIDTH, height=HEIGHT, shifts=shifts).reshape(HEIGHT, WIDTH)
+    moved = view(client, key, inks=1, left=0, top=0, width=WIDTH, height=HEIGHT, shifts=shifts)
+    moved = moved.reshape(HEIGHT, WIDTH)
     assert np.array_equal(moved[:-2, 3:], still[2:, :-3]) and set(moved[:, 0]) == {0xFFFFFFFF}
 
 
@@ -231,7 +234,8 @@ def test_tiles_have_the_pixels_of_the_plates(client):
     key = page_of(client)
     for mode in ("before", "after", "traps"):
         answer = client.get(f"/api/pages/{key}/tiles/{mode}/v/15/0/0/0")
-        assert answer.status_code == 200 and answer.content[:4] == b"\x89PNG" and "immutable" in answer.headers["cache-control"]
+        assert answer.status_code == 200 and answer.content[:4] == b"\x89PNG"
+        assert "immutable" in answer.headers["cache-control"]
     for bad in ("after/v/15/0/9/9", "odd/v/15/0/0/0", "after/v/15/99/0/0"):
         assert client.get(f"/api/pages/{key}/tiles/{bad}").status_code == 404
 
@@ -281,7 +285,8 @@ def test_a_restart_takes_up_the_page_where_it_was(folder, tmp_path):
         change(client, key, {"TrapWidth": 50_000}, (zone(TrapWidth=10_000),))
     with open_client(folder) as client:
         found = wait_until_shown(client, key)
-        assert found["settings"]["TrapWidth"] == 50_000 and found["edits"]["zones"][0]["settings"] == {"TrapWidth": 10_000}
+        assert found["settings"]["TrapWidth"] == 50_000
+        assert found["edits"]["zones"][0]["settings"] == {"TrapWidth": 10_000}
         opened = DeskPage(str(page))
         end = time.monotonic() + SECONDS
         while opened.is_behind() and time.monotonic() < end:
@@ -317,7 +322,8 @@ def test_with_a_token_only_who_has_it_is_answered(folder):
         assert client.get("/?token=wrong").status_code == 403
         welcome = client.get("/?token=a-long-enough-token", follow_redirects=False)
         assert welcome.status_code == 303 and "token" not in welcome.headers["location"]
-        assert "HttpOnly" in welcome.headers["set-cookie"] and "samesite=strict" in welcome.headers["set-cookie"].lower()
+        cookie = welcome.headers["set-cookie"].lower()
+        assert "httponly" in cookie and "samesite=strict" in cookie
         assert client.get("/api/jobs").status_code == 200
 
 
@@ -328,9 +334,9 @@ def test_no_id_leads_out_of_the_folder(client):
     assert client.get("/static/../server.py").status_code == 404
 
 
-@pytest.mark.parametrize("name, plain", [("../../etc/passwd", "passwd.pdf"), ("a/b\\c.PDF", "c.PDF"), ("", "upload.pdf"),
-                                         ("..", "upload.pdf"), ("täg 1.pdf", "täg 1.pdf"), ("x\n\0.pdf", "x__.pdf"),
-                                         ("n" * 300 + ".pdf", "n" * 100 + ".pdf")])
+@pytest.mark.parametrize("name, plain", [
+    ("../../etc/passwd", "passwd.pdf"), ("a/b\\c.PDF", "c.PDF"), ("", "upload.pdf"), ("..", "upload.pdf"),
+    ("täg 1.pdf", "täg 1.pdf"), ("x\n\0.pdf", "x__.pdf"), ("n" * 300 + ".pdf", "n" * 100 + ".pdf")])
 def test_a_name_from_a_browser_is_a_plain_name(name, plain):
     """No folder, no control character, no hidden file, and a bounded length."""
     assert plain_name(name) == plain
@@ -393,10 +399,9 @@ def test_the_command_serves_and_ends(folder):
 def test_digests_of_pages_differ(folder):
     """Nothing of a page can change without its digest."""
     page = DeskPage(str(folder / "made" / "page-001"))
-    first = Store._digest(page)  # pylint: disable=protected-access
+    first = digest_of(page)
     plate = Path(page.folder.plate(page.folder.inks[0], True))
     data = bytearray(plate.read_bytes())
     data[-1] ^= 1
     plate.write_bytes(data)
-    assert Store._digest(page) != first and len(first) == len(hashlib.sha256().hexdigest())  # pylint: disable=protected-access
-    assert replace(page.folder, path="x") != page.folder
+    assert digest_of(page) != first

@@ -158,7 +158,7 @@ class Store:
         said = self._said(place)
         approval = said.get("approval")
         if approval:
-            approval = {**approval, "current": approval.get("digest") == self._digest(page)}
+            approval = {**approval, "current": approval.get("digest") == digest_of(page)}
         downloads = [{"kind": kind, "title": title} for kind, (title, name) in DOWNLOADS.items()
                      if (place.folder / TRAPPED / name).is_file()]
         return {"id": key, "title": f"{place.title}, page {place.number}", **page.state(), "approval": approval,
@@ -196,7 +196,7 @@ class Store:
             raise BadRequest("say your name")
         if body.get("version") != page.version or page.version != page.shown:
             raise BadRequest("the page has changed, or is not trapped yet: look at it once more")
-        digest = self._digest(page)
+        digest = digest_of(page)
         self._say(place, {**self._said(place), "approval": {"verdict": verdict, "name": name, "time": now(),
                                                             "digest": digest}})
         self.events.tell(kind="said", page=key)
@@ -218,18 +218,6 @@ class Store:
         self._say(place, {**said, "notes": notes})
         self.events.tell(kind="said", page=key)
 
-    @staticmethod
-    def _digest(page: DeskPage) -> str:
-        """Changes if the job, the inks, or any plate does, before trapping or after."""
-        found = hashlib.sha256()
-        found.update(page.text)
-        found.update(Path(page.folder.file(TABLE)).read_bytes())
-        for trapped in (False, True):
-            for ink in page.folder.inks:
-                with open(page.folder.plate(ink, trapped), "rb") as file:
-                    found.update(hashlib.file_digest(file, "sha256").digest())
-        return found.hexdigest()
-
     def download(self, key: str, kind: str) -> tuple[str, str]:
         """The path of one of a page's files, and the name that it is saved under."""
         place = self.place(key)
@@ -240,6 +228,18 @@ class Store:
             raise NoSuchThing("no such file")
         stem = Path(place.title).stem or "page"
         return str(path), f"{stem}-{place.number}-{path.name}"
+
+
+def digest_of(page: DeskPage) -> str:
+    """Changes if the job, the inks, or any plate does, before trapping or after."""
+    found = hashlib.sha256()
+    found.update(page.text)
+    found.update(Path(page.folder.file(TABLE)).read_bytes())
+    for trapped in (False, True):
+        for ink in page.folder.inks:
+            with open(page.folder.plate(ink, trapped), "rb") as file:
+                found.update(hashlib.file_digest(file, "sha256").digest())
+    return found.hexdigest()
 
 
 def pages_of(folder: Path) -> list[tuple[int, Path, str]]:

@@ -1,0 +1,304 @@
+# SPDX-License-Identifier: Apache-2.0
+"""The trap editor in a real browser: what its canvas shows is what the plates have. Run by -m browser."""
+import base64
+import io
+import shutil
+import subprocess
+import time
+from pathlib import Path
+
+import pytest
+
+np = pytest.importorskip("numpy")
+image = pytest.importorskip("PIL.Image")
+selenium = pytest.importorskip("selenium.webdriver")
+pytest.importorskip("starlette")
+
+from press import engine, tools  # noqa: E402
+from press.folder import PageFolder  # noqa: E402
+from press.settings import Settings  # noqa: E402
+from selenium.webdriver import ActionChains  # noqa: E402
+from selenium.webdriver.common.by import By  # noqa: E402
+from selenium.webdriver.common.keys import Keys  # noqa: E402
+from test_desk_server import HEIGHT, LIBRARY, WIDTH, free_port, make_page, trapped_by_command, files_of  # noqa: E402
+
+pytestmark = [pytest.mark.browser, pytest.mark.skipif(
+    LIBRARY is None or not shutil.which("chromedriver"), reason="libtrap or chromium-driver is not there")]
+SECONDS = 60
+LABEL = Path(__file__).resolve().parents[2] / "examples" / "label" / "label.pdf"
+
+
+class Desk:
+    """A server of a folder, and the browser that looks at it."""
+
+    def __init__(self, folder, size=(1500, 950)):
+        self.folder, self.port, self.server = folder, free_port(), None
+        self.start()
+        options = selenium.ChromeOptions()
+        for word in ("--headless=new", "--no-sandbox", "--disable-dev-shm-usage", "--hide-scrollbars",
+                     f"--window-size={size[0]},{size[1]}"):
+            options.add_argument(word)
+        self.browser = selenium.Chrome(options=options)
+        self.browser.set_script_timeout(SECONDS)
+
+    def start(self):
+        """Starts the server; the line that it prints says that it answers."""
+        command = [str(Path(tools.PRESS) / "desk"), str(self.folder), "--no-open", "--port", str(self.port)]
+        self.server = subprocess.Popen(command, stdout=subprocess.PIPE, text=True)
+        assert self.server.stdout.readline()
+
+    def stop(self):
+        """Ends the server."""
+        self.server.terminate()
+        assert self.server.wait(SECONDS) == 0
+        self.server.stdout.close()
+
+    def open(self):
+        """Opens the app, and waits until it has what it shows."""
+        self.browser.get(f"http://127.0.0.1:{self.port}/")
+        self.wait("return !!(window.desk && desk.app.ready)")
+
+    def wait(self, script):
+        """Waits until a script says yes."""
+        end = time.monotonic() + SECONDS
+        while time.monotonic() < end:
+            if self.browser.execute_script(script):
+                return
+            time.sleep(0.05)
+        raise AssertionError(f"never true: {script}; the app says: {self.status()}")
+
+    def status(self):
+        """The line that the app shows."""
+        return self.browser.find_element(By.ID, "status").text
+
+    def settle(self):
+        """Waits until the page is trapped and its tiles are there."""
+        self.wait("return desk.app.page.version === desk.app.page.shown && !desk.app.isSending && !desk.app.waiting")
+        self.wait("return [...document.querySelectorAll('#map .leaflet-tile')].every((one) => one.complete)")
+
+    def close_up(self):
+        """The whole page at 1:1."""
+        self.browser.execute_script(
+            "desk.view.map.setView([desk.app.page.height / 2, desk.app.page.width / 2], 0, {animate: false})")
+
+    def set(self, box, value):
+        """Types a value into a box."""
+        script = ("const box = document.getElementById(arguments[0]); box.value = arguments[1];"
+                  "box.dispatchEvent(new Event('change', {bubbles: true}))")
+        self.browser.execute_script(script, box, str(value))
+
+    def click(self, where):
+        """Clicks what a selector finds."""
+        self.browser.execute_script("document.querySelector(arguments[0]).click()", where)
+
+    def picture(self):
+        """The page's picture as red, green and blue, from the tiles or the live canvas."""
+        script = """
+          const done = arguments[arguments.length - 1], canvas = document.createElement('canvas'), {page} = desk.app;
+          Object.assign(canvas, {width: page.width, height: page.height});
+          const context = canvas.getContext('2d'), live = document.querySelector('.live-picture');
+          if (live) context.drawImage(live, 0, 0);
+          else for (const {el, coords} of Object.values(desk.view.tiles._tiles))
+            if (coords.z === 0) context.drawImage(el, coords.x * 512, coords.y * 512);
+          done(canvas.toDataURL());"""
+        data = self.browser.execute_async_script(script).partition(",")[2]
+        return np.asarray(image.open(io.BytesIO(base64.b64decode(data))).convert("RGB"))
+
+    def close(self):
+        """Ends both."""
+        self.browser.quit()
+        if self.server.poll() is None:
+            self.stop()
+
+
+@pytest.fixture(name="desk")
+def fixture_desk(tmp_path):
+    """A desk with one page."""
+    make_page(tmp_path / "jobs" / "made" / "page-001")
+    found = Desk(tmp_path / "jobs")
+    yield found
+    found.close()
+
+
+def colours_of(folder, trapped=True):
+    """The picture of a page's plates, as the editor paints it."""
+    from press.desk.page import DeskPage
+    page = DeskPage(str(folder))
+    pyramid = page.after if trapped else page.before
+    pixels = page.inks.paint([np.asarray(plane) for plane in pyramid.planes], 0xFFFF)
+    return pixels.view("u1").reshape(HEIGHT, WIDTH, 4)[:, :, :3]
+
+
+def test_the_picture_is_that_of_the_plates(desk):
+    """Before and after, every pixel; and with plates switched off."""
+    desk.open()
+    desk.close_up()
+    page = desk.folder / "made" / "page-001"
+    for mode in ("after", "before"):
+        desk.click(f"[data-mode={mode}]")
+        desk.settle()
+        assert np.array_equal(desk.picture(), colours_of(page, mode == "after"))
+    desk.click("#ink-1")
+    desk.wait("return desk.view.shownInks !== 65535")
+    desk.settle()
+    assert not np.array_equal(desk.picture(), colours_of(page, False))
+
+
+def test_a_new_width_is_seen_at_once_and_is_that_of_the_command(desk, tmp_path):
+    """The live picture, then the tiles, then the files."""
+    desk.open()
+    desk.close_up()
+    desk.settle()
+    before = desk.picture()
+    desk.set("set-TrapWidth", 3.5)
+    desk.wait("return desk.app.page.version === 2")
+    desk.settle()
+    desk.wait("return !document.querySelector('.live-picture')")
+    desk.settle()
+    page = desk.folder / "made" / "page-001"
+    assert np.array_equal(desk.picture(), colours_of(page)) and not np.array_equal(desk.picture(), before)
+    assert files_of(page) == trapped_by_command(page, tmp_path / "again")
+
+
+def test_a_zone_is_drawn_changed_undone_and_kept(desk, tmp_path):
+    """By mouse; traps off inside; undo; and all of it after a restart of the server."""
+    desk.open()
+    desk.close_up()
+    desk.settle()
+    before = desk.picture()
+    page_map = desk.browser.find_element(By.ID, "map")
+    desk.click("#rectangle")
+    ActionChains(desk.browser).move_to_element_with_offset(page_map, -50, -40).click().move_to_element_with_offset(
+        page_map, 20, 30).click().perform()
+    desk.wait("return desk.app.page.edits.zones.length === 1")
+    desk.click("#zone-0-on")
+    desk.wait("return desk.app.page.edits.zones[0].settings.Enabled === false")
+    desk.settle()
+    desk.wait("return !document.querySelector('.live-picture')")
+    desk.settle()
+    changed = np.any(desk.picture() != before, axis=2)
+    (left, top), _, (right, bottom), _ = desk.browser.execute_script("return desk.app.page.edits.zones[0].points")
+    rows, columns = np.nonzero(changed)
+    reach = int(2 * 72 / 72 + 0.5)
+    assert changed.any()
+    assert left - reach <= columns.min() and columns.max() < right + reach
+    assert top - reach <= rows.min() and rows.max() < bottom + reach
+    desk.stop()
+    desk.start()
+    desk.open()
+    assert desk.browser.execute_script("return desk.app.page.edits.zones.length") == 1
+    page = desk.folder / "made" / "page-001"
+    desk.settle()
+    assert files_of(page) == trapped_by_command(page, tmp_path / "again")
+
+
+def test_undo_by_key_gives_the_picture_back(desk):
+    """Ctrl+Z, and Ctrl+Shift+Z."""
+    desk.open()
+    desk.close_up()
+    desk.settle()
+    before = desk.picture()
+    desk.set("set-TrapWidth", 4)
+    desk.wait("return desk.app.page.version === 2")
+    desk.settle()
+    after = desk.picture()
+    body = desk.browser.find_element(By.TAG_NAME, "body")
+    body.send_keys(Keys.CONTROL, "z")
+    desk.wait("return desk.app.page.version === 3")
+    desk.settle()
+    assert np.array_equal(desk.picture(), before)
+    body.send_keys(Keys.CONTROL, Keys.SHIFT, "z")
+    desk.wait("return desk.app.page.version === 4")
+    desk.settle()
+    assert np.array_equal(desk.picture(), after)
+
+
+def test_why_says_what_the_plates_have(desk):
+    """A click on a trapped pixel: tints, and the reason."""
+    desk.open()
+    desk.close_up()
+    desk.settle()
+    page = PageFolder.read(str(desk.folder / "made" / "page-001"))
+    before, after = page.plates().arrays, page.plates(True).arrays
+    rows, columns = np.nonzero(np.any([old != new for old, new in zip(before, after)], axis=0))
+    row, column = int(rows[len(rows) // 2]), int(columns[len(rows) // 2])
+    place = desk.browser.execute_script(
+        "const p = desk.view.map.latLngToContainerPoint([arguments[1] + 0.5, arguments[0] + 0.5]),"
+        "b = document.getElementById('map').getBoundingClientRect(); return [p.x - b.width / 2, p.y - b.height / 2]",
+        column, row)
+    page_map = desk.browser.find_element(By.ID, "map")
+    ActionChains(desk.browser).move_to_element_with_offset(page_map, round(place[0]), round(place[1])).click().perform()
+    desk.wait("return document.getElementById('why').textContent.includes('Pixel')")
+    text = desk.browser.find_element(By.ID, "why").text
+    assert "trapped" in text and "Magenta" in text and "pixels away" in text
+
+
+def test_two_windows_lose_no_change(desk):
+    """The second of two changes on one version is offered again, and both windows show the newest."""
+    desk.open()
+    first = desk.browser.current_window_handle
+    desk.browser.switch_to.new_window("tab")
+    desk.open()
+    desk.browser.execute_script("desk.app.page.version = 1")
+    desk.set("set-TrapWidth", 3)
+    desk.wait("return desk.app.page.version === 2")
+    desk.browser.switch_to.window(first)
+    desk.wait("return desk.app.page.version === 2 && desk.app.page.settings.TrapWidth === 30000")
+
+
+def test_ten_tabs_on_one_server_work(desk):
+    """Each of them shows a change that one of them makes."""
+    desk.open()
+    for _ in range(9):
+        desk.browser.switch_to.new_window("tab")
+        desk.open()
+    desk.set("set-TrapWidth", 3)
+    for handle in desk.browser.window_handles:
+        desk.browser.switch_to.window(handle)
+        desk.wait("return desk.app.page.settings.TrapWidth === 30000")
+
+
+def test_a_page_is_approved_and_the_approval_lapses(desk):
+    """By name; any change makes it out of date."""
+    desk.open()
+    desk.browser.execute_script("document.querySelectorAll('details').forEach((one) => { one.open = true; })")
+    desk.browser.find_element(By.ID, "approver").send_keys("Ada")
+    desk.browser.execute_script(
+        "[...document.querySelectorAll('#approval button')].find((one) => one.textContent === 'Approve').click()")
+    desk.wait("return document.getElementById('approval').textContent.includes('approved by Ada')")
+    desk.set("set-TrapWidth", 3)
+    desk.wait("return desk.app.page.version === 2")
+    desk.settle()
+    desk.wait("return document.getElementById('approval').textContent.includes('out of date')")
+
+
+def test_a_dropped_file_becomes_pages(desk):
+    """The label: uploaded, separated, trapped, and shown, with the plates of the command."""
+    if not shutil.which("gs"):
+        pytest.skip("Ghostscript is not installed")
+    desk.open()
+    desk.browser.find_element(By.ID, "file").send_keys(str(LABEL))
+    desk.wait("return desk.app.jobs.some((one) => one.name === 'label.pdf' && one.pages.length === 2"
+              " && one.state === 'done')")
+    folder = next(one for one in desk.folder.iterdir() if one.name.startswith("job-"))
+    page = folder / "page-001"
+    made = files_of(page)
+    engine.trap(PageFolder.read(str(page)), Settings())
+    assert files_of(page) == made
+
+
+@pytest.mark.parametrize("size", [(1500, 950), (1000, 760), (420, 900)])
+def test_nothing_is_cut_off_at_any_size(tmp_path, size):
+    """No control lies outside the window's width."""
+    make_page(tmp_path / "jobs" / "made" / "page-001")
+    desk = Desk(tmp_path / "jobs", size)
+    try:
+        desk.open()
+        beyond = desk.browser.execute_script(
+            "return [...document.querySelectorAll('button, input, select')].filter((one) => one.offsetParent)"
+            ".filter((one) => one.getBoundingClientRect().right > innerWidth + 1)"
+            ".map((one) => one.id || one.textContent)")
+        assert beyond == []
+        assert desk.browser.execute_script("return document.documentElement.scrollWidth <= innerWidth")
+    finally:
+        desk.close()
