@@ -1,11 +1,14 @@
 # SPDX-License-Identifier: Apache-2.0
 """The trap editor's server without a browser: pages, changes, conflicts, and whoever may not ask."""
 import asyncio
+import io
 import os
 import shutil
 import socket
 import subprocess
+import tempfile
 import time
+import zipfile
 from pathlib import Path
 
 import pytest
@@ -405,3 +408,39 @@ def test_digests_of_pages_differ(folder):
     data[-1] ^= 1
     plate.write_bytes(data)
     assert digest_of(page) != first
+
+
+def test_an_inks_density_and_kind_can_be_changed(client, folder, tmp_path):
+    """The job gets the details of all inks; the others keep theirs."""
+    key = page_of(client)
+    edits = {"settings": {}, "zones": [], "inks": {"Magenta": {"density": 20_000, "kind": "Opaque"}}}
+    page = client.post(f"/api/pages/{key}/edits", json={"version": 1, "edits": edits}).json()
+    assert [(ink["density"], ink["kind"]) for ink in page["inks"]] == [
+        (0.61, "Normal"), (2.0, "Opaque"), (0.16, "Normal"), (1.7, "Normal")]
+    assert page["edits"]["inks"] == edits["inks"]
+    wait_until_shown(client, key)
+    made = folder / "made" / "page-001"
+    assert files_of(made)["report"] == trapped_by_command(made, tmp_path / "again")["report"]
+    for bad in ({"Gold": {"density": 1, "kind": "Normal"}}, {"Cyan": {"density": 6_100, "kind": "Odd"}}):
+        answer = client.post(f"/api/pages/{key}/edits", json={"version": 2, "edits": {**edits, "inks": bad}})
+        assert answer.status_code == 400
+
+
+def test_presets_are_offered_in_the_units_of_the_job(client):
+    """Each has a width."""
+    found = {one["name"]: one["settings"] for one in client.get(f"/api/pages/{page_of(client)}").json()["presets"]}
+    assert {"offset", "flexo"} <= set(found) and found["flexo"]["TrapWidth"] > found["offset"]["TrapWidth"] > 0
+
+
+def test_the_trapped_plates_can_be_fetched(client, folder):
+    """As a ZIP with the job and the report, byte for byte; nothing of it stays on the server."""
+    key, page = page_of(client), folder / "made" / "page-001"
+    before = set(Path(tempfile.gettempdir()).glob("press-desk-*"))
+    answer = client.get(f"/api/pages/{key}/download/plates.zip")
+    packed = zipfile.ZipFile(io.BytesIO(answer.content))
+    wanted = {**files_of(page), "page.job": (page / "page.job").read_bytes()}
+    assert {name: packed.read(name) for name in packed.namelist()} == wanted
+    assert "made-1.zip" in answer.headers["content-disposition"]
+    assert set(Path(tempfile.gettempdir()).glob("press-desk-*")) == before
+    assert client.get(f"/api/pages/{key}/download/report").content == (page / "trapped" / "report").read_bytes()
+    assert client.get(f"/api/pages/{key}/download/..%2Fpage.job").status_code == 404

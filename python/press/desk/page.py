@@ -34,6 +34,7 @@ MOST_PIXELS = 4 << 20
 MOST_SHIFT = 256
 MOST_ZONES = 200
 MODES = ("before", "after", "traps")
+KINDS = ("Normal", "Transparent", "Opaque", "OpaqueIgnore")
 
 
 class VersionConflict(Exception):
@@ -149,8 +150,16 @@ class DeskPage:
             raise BadRequest(f"there are {len(zones)} zones, and at most {MOST_ZONES} can be edited")
         own = self._settings(read_job(self.original))
         settings = {key: value for key, value in _settings_of(said["settings"]).items() if value != own[key]}
-        inks = {name: EditedInk(int(one["density"]), str(one["kind"])) for name, one in said.get("inks", {}).items()}
-        return Edits(settings, inks, tuple(self._zone_of(zone) for zone in zones))
+        return Edits(settings, self._inks_of(said.get("inks", {})), tuple(self._zone_of(zone) for zone in zones))
+
+    def _inks_of(self, said: Mapping[str, Any]) -> dict[str, EditedInk]:
+        """The details of all inks if a browser changes some: later details replace all earlier ones in a job."""
+        own = {name: EditedInk(ink.density, ink.kind) for name, ink in read_job(self.original).inks.items()}
+        changed = {name: EditedInk(int(one["density"]), str(one["kind"])) for name, one in said.items()}
+        if not set(changed) <= set(own) or any(ink.kind not in KINDS for ink in changed.values()):
+            raise BadRequest("no such ink, or kind of ink")
+        made = {**own, **changed}
+        return made if made != own else {}
 
     def _zone_of(self, said: Mapping[str, Any]) -> EditedZone:
         points = [(float(x), float(y)) for x, y in said["points"]]
@@ -200,16 +209,21 @@ class DeskPage:
                     "version": self.version, "shown": self.shown, "epoch": self.epoch,
                     "levels": self.before.last_level, "canUndo": bool(self.undo), "canRedo": bool(self.redo),
                     "inks": [self._ink(k) for k in range(len(self.names))], "settings": self._settings(self.job),
-                    "edits": {"settings": dict(self.edits.settings), "zones": zones,
-                              "inks": {name: vars(ink) for name, ink in self.edits.inks.items()}},
+                    "edits": {"settings": dict(self.edits.settings), "zones": zones, "inks": self._changed_inks()},
                     "jobZones": self._job_zones()}
+
+    def _changed_inks(self) -> dict[str, dict[str, Any]]:
+        own = read_job(self.original).inks
+        return {name: vars(ink) for name, ink in self.edits.inks.items()
+                if name not in own or (own[name].density, own[name].kind) != (ink.density, ink.kind)}
 
     def _ink(self, number: int) -> dict[str, Any]:
         ink = self.folder.inks[number]
         details = self.job.inks.get(ink.name)
         return {"name": ink.name, "title": readable(ink.colorant), "light": self.inks.lights[number],
                 "density": details.density / 10_000 if details else float(ink.density),
-                "kind": details.kind if details else ink.kind, "hasInk": ink.has_ink}
+                "kind": details.kind if details else ink.kind, "hasInk": ink.has_ink,
+                "coverage": 1 - float(self.before.levels[0][number].mean()) / 255}
 
     def _job_zones(self) -> list[dict[str, Any]]:
         """The job's zones for the picture: rings in pixels from the top left corner, and settings."""

@@ -6,6 +6,7 @@ Ids are the only way to a job or a page: no name that a browser sends becomes pa
 from __future__ import annotations
 
 import json
+import os
 from collections.abc import AsyncIterator, Awaitable, Callable
 from contextlib import asynccontextmanager
 from pathlib import Path
@@ -13,6 +14,7 @@ from typing import Any
 
 import trapping
 from starlette.applications import Starlette
+from starlette.background import BackgroundTask
 from starlette.concurrency import run_in_threadpool
 from starlette.requests import Request
 from starlette.responses import FileResponse, JSONResponse, Response
@@ -178,9 +180,9 @@ class Server:
 
     async def download(self, request: Request) -> Response:
         """One of a page's files, or several as an archive."""
-        path, name = await run_in_threadpool(self.store.download, request.path_params["page"],
-                                             request.path_params["kind"])
-        return FileResponse(path, filename=name, headers={"cache-control": "no-store"})
+        made = await run_in_threadpool(self.store.download, request.path_params["page"], request.path_params["kind"])
+        after = BackgroundTask(os.unlink, made.path) if made.is_temporary else None
+        return FileResponse(made.path, filename=made.name, headers={"cache-control": "no-store"}, background=after)
 
     def routes(self) -> list[Route | WebSocketRoute | Mount]:
         """All addresses of the server."""

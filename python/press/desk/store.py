@@ -9,8 +9,10 @@ from __future__ import annotations
 import hashlib
 import json
 import os
+import tempfile
 import threading
 import time
+import zipfile
 from collections import OrderedDict
 from collections.abc import Mapping
 from dataclasses import dataclass
@@ -19,8 +21,10 @@ from typing import Any
 
 from press.errors import PressError
 from press.files import locked, write_text
-from press.folder import JOB, JSON, REPORT, TABLE, TRAPPED, JobFolder, read_table
+from press.folder import JOB, JSON, REPORT, TABLE, TRAPPED, WARNINGS, JobFolder, read_table, read_text
+from press.job_language import SCALE
 from press.names import readable
+from press.settings import PARAMETERS, PRESETS, house_folder, preset_values
 
 from .events import Events
 from .page import BadRequest, DeskPage
@@ -34,6 +38,7 @@ RECORD = "job.json"
 SAID = "desk"
 VERDICTS = ("approved", "rejected")
 DOWNLOADS = {"report": ("Report", REPORT), "report.json": ("Report as JSON", JSON)}
+ARCHIVE = "plates.zip"
 
 
 class NoSuchThing(Exception):
@@ -48,6 +53,15 @@ class Place:
     folder: Path
     number: int
     title: str
+
+
+@dataclass(frozen=True)
+class Download:
+    """A file that a browser fetches, the name that it is saved under, and whether it is removed afterwards."""
+
+    path: str
+    name: str
+    is_temporary: bool = False
 
 
 @dataclass
@@ -161,8 +175,10 @@ class Store:
             approval = {**approval, "current": approval.get("digest") == digest_of(page)}
         downloads = [{"kind": kind, "title": title} for kind, (title, name) in DOWNLOADS.items()
                      if (place.folder / TRAPPED / name).is_file()]
+        downloads.append({"kind": ARCHIVE, "title": "Trapped plates and their job (ZIP)"})
         return {"id": key, "title": f"{place.title}, page {place.number}", **page.state(), "approval": approval,
-                "notes": said.get("notes", []), "downloads": downloads}
+                "notes": said.get("notes", []), "downloads": downloads, "presets": presets(),
+                "findings": warnings_of(place.folder)}
 
     def close(self) -> None:
         """Stops all runs."""
@@ -218,16 +234,16 @@ class Store:
         self._say(place, {**said, "notes": notes})
         self.events.tell(kind="said", page=key)
 
-    def download(self, key: str, kind: str) -> tuple[str, str]:
-        """The path of one of a page's files, and the name that it is saved under."""
+    def download(self, key: str, kind: str) -> Download:
+        """One of a page's files."""
         place = self.place(key)
-        if kind not in DOWNLOADS:
+        name = f"{Path(place.title).stem or 'page'}-{place.number}"
+        if kind == ARCHIVE:
+            return Download(archive_of(self.page(key)), f"{name}.zip", is_temporary=True)
+        path = place.folder / TRAPPED / DOWNLOADS[kind][1] if kind in DOWNLOADS else None
+        if path is None or not path.is_file():
             raise NoSuchThing("no such file")
-        path = place.folder / TRAPPED / DOWNLOADS[kind][1]
-        if not path.is_file():
-            raise NoSuchThing("no such file")
-        stem = Path(place.title).stem or "page"
-        return str(path), f"{stem}-{place.number}-{path.name}"
+        return Download(str(path), f"{name}-{path.name}")
 
 
 def digest_of(page: DeskPage) -> str:
@@ -240,6 +256,30 @@ def digest_of(page: DeskPage) -> str:
             with open(page.folder.plate(ink, trapped), "rb") as file:
                 found.update(hashlib.file_digest(file, "sha256").digest())
     return found.hexdigest()
+
+
+def archive_of(page: DeskPage) -> str:
+    """Packs the trapped plates, the report and the job into a file of its own."""
+    handle, path = tempfile.mkstemp(prefix="press-desk-", suffix=".zip")
+    with os.fdopen(handle, "wb") as file, zipfile.ZipFile(file, "w", zipfile.ZIP_DEFLATED, compresslevel=1) as packed:
+        packed.write(page.folder.file(JOB), JOB)
+        for name in (REPORT, JSON, *(f"{ink.name}.pgm" for ink in page.folder.inks)):
+            packed.write(page.folder.file(TRAPPED, name), name)
+    return path
+
+
+def presets() -> list[dict[str, Any]]:
+    """The presets of the house and of the press room, in the units of the job."""
+    folders = [folder for folder in (house_folder(), PRESETS) if folder]
+    names = sorted({one.stem for folder in folders for one in Path(folder).glob("*.preset")})
+    return [{"name": name, "settings": {PARAMETERS[key].key: round(value.number * SCALE)
+                                        for key, value in preset_values(name).items()}} for name in names]
+
+
+def warnings_of(folder: Path) -> list[dict[str, Any]]:
+    """What was found when the page was made."""
+    lines = read_text(str(folder), WARNINGS).splitlines()
+    return [{"level": "warning", "text": line, "place": None} for line in lines if line.strip()]
 
 
 def pages_of(folder: Path) -> list[tuple[int, Path, str]]:

@@ -17,6 +17,10 @@ export function element(tag, properties = {}, children = []) {
 const percent = (/** @type {number} */ share) => `${Math.round(share * 100)} %`;
 const SCALE = 10000;
 
+/** What docs/JOBS.md calls the kinds of ink, and what an operator calls them. */
+const KINDS = /** @type {[string, string][]} */ ([['Normal', 'normal'], ['Transparent', 'transparent (varnish)'], ['Opaque', 'opaque (white, metallic)'],
+  ['OpaqueIgnore', 'keeps traps away (foil)']]);
+
 /** Settings of `settrapparams`: key, label, least, most, step, unit. Values travel in ten-thousandths, as the job keeps them. */
 const SETTINGS = /** @type {[string, string, number, number, number, string][]} */ ([
   ['TrapWidth', 'Trap width', 0.05, 4, 0.05, 'pt'], ['BlackWidth', 'Width at black', 0.5, 4, 0.1, 'times'],
@@ -30,8 +34,9 @@ const SETTINGS = /** @type {[string, string, number, number, number, string][]} 
  */
 export function showPanels(app, on) {
   const focused = document.activeElement?.id;
-  showInks(app, on);
+  showPlates(app, on);
   showSettings(app.page, on);
+  showInks(app.page, on);
   showZones(app, on);
   showFindings(app.page, on);
   showApproval(app.page, on);
@@ -40,12 +45,34 @@ export function showPanels(app, on) {
 }
 
 /**
+ * Densities and kinds of the inks.
+ * @param {any} page
+ * @param {any} on
+ */
+function showInks(page, on) {
+  const head = element('tr', {}, ['Ink', 'Density', 'Kind'].map((text) => element('th', { textContent: text, scope: 'col' })));
+  const rows = page.inks.map((/** @type {any} */ ink, /** @type {number} */ k) => {
+    const set = (/** @type {any} */ more) => on.edit((/** @type {any} */ edits) => {
+      edits.inks[ink.name] = { density: Math.round(ink.density * SCALE), kind: ink.kind, ...edits.inks[ink.name], ...more };
+    });
+    const density = element('input', { type: 'number', id: `density-${k}`, min: 0.001, max: 10, step: 0.01, value: String(ink.density) });
+    density.setAttribute('aria-label', `Neutral density of ${ink.title}`);
+    density.onchange = () => { if (Number(density.value) >= 0.001) set({ density: Math.round(Number(density.value) * SCALE) }); };
+    const kind = element('select', { id: `kind-${k}` }, KINDS.map(([value, text]) => new Option(text, value, false, value === ink.kind)));
+    kind.setAttribute('aria-label', `Kind of ${ink.title}`);
+    kind.onchange = () => set({ kind: kind.value });
+    return element('tr', {}, [ink.title, density, kind].map((cell) => element('td', {}, [cell])));
+  });
+  byId('details').replaceChildren(head, ...rows);
+}
+
+/**
  * @param {any} app
  * @param {any} on
  */
-function showInks(app, on) {
+function showPlates(app, on) {
   const { page } = app, perMillimetre = page.dpi / 25.4;
-  const head = element('tr', {}, ['Plate', 'Off, across', 'Off, down'].map((text) => element('th', { textContent: text, scope: 'col' })));
+  const head = element('tr', {}, ['Plate', 'Shift right', 'Shift down'].map((text) => element('th', { textContent: text, scope: 'col' })));
   const rows = page.inks.map((/** @type {any} */ ink, /** @type {number} */ k) => {
     const box = element('input', { type: 'checkbox', checked: !!(app.shownInks >> k & 1), id: `ink-${k}` });
     box.onchange = () => on.setInks(box.checked ? app.shownInks | 1 << k : app.shownInks & ~(1 << k));
@@ -92,7 +119,10 @@ function control(id, [, label, least, most, step, unit], value, set) {
  * @param {any} on
  */
 function showSettings(page, on) {
-  byId('settings').replaceChildren(...SETTINGS.map((setting) => control(`set-${setting[0]}`, setting, page.settings[setting[0]],
+  const pick = element('select', { id: 'preset' }, [new Option('Preset …', ''), ...page.presets.map((/** @type {any} */ one) => new Option(one.name, one.name))]);
+  pick.setAttribute('aria-label', 'Preset');
+  pick.onchange = () => on.edit((/** @type {any} */ edits) => Object.assign(edits.settings, page.presets.find((/** @type {any} */ one) => one.name === pick.value)?.settings));
+  byId('settings').replaceChildren(pick, ...SETTINGS.map((setting) => control(`set-${setting[0]}`, setting, page.settings[setting[0]],
     (value) => on.edit((/** @type {any} */ edits) => { edits.settings[setting[0]] = value; }))));
 }
 
