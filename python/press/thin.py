@@ -1,0 +1,214 @@
+# SPDX-License-Identifier: Apache-2.0
+"""The trap widths that leave thin strokes their colour.
+
+A trap of the page's width fills small type and hairlines. `narrow_lines` gives each line of thin strokes a trap of a
+third of its stroke; `boxes_by_width` says where, and `own_share` how much of the strokes the traps leave alone.
+
+Vocabulary
+
+- A line is parts of one colour that stand side by side, as the letters of a line of type do.
+- A reach is how far a trap goes on one side of an edge, in pixels.
+"""
+from __future__ import annotations
+
+import math
+from collections.abc import Iterable, Sequence
+from dataclasses import dataclass, replace
+
+import numpy as np
+
+from .strokes import SHARE, SLANT, Box, Ink, Mask, Part, Plane, Rule, edges_of, steps_of
+
+# A third may be so many pixels short of a reach.
+SLACK = 0.05
+# The trap of a lighter stroke lies around it, and takes nothing of it.
+LIGHTER_SLACK = 0.1
+# Below this third of a stroke a centred trap is left out.
+LEAST_CENTRED = 0.55
+# The reach that closes slanted edges too.
+CLOSING = math.sqrt(5) / 2
+# The distances from the middle of a pixel to an edge, in pixels: widths between two of them give the same trap.
+REACHES = tuple(sorted({math.sqrt(a * a + b * b) / 2 for a in range(1, 80, 2) for b in range(0, 80, 2)}))
+# What is added to a reach so that rounding to four digits of a point does not fall below it.
+ROUNDING = 0.005
+# Boxes in a row are joined where no more than so much of an inch lies between them.
+NEAR_INCHES = 0.03
+MOST_MEASURED = 400
+
+
+@dataclass(frozen=True)
+class Line:
+    """Parts that get one trap width. `reach` is in pixels on one side of an edge, `width` in points; 0 switches
+    trapping off."""
+
+    parts: tuple[Part, ...]
+    stroke: float
+    slides: bool
+    reach: float
+    width: float
+
+
+def stroke_of(parts: Iterable[Part]) -> float:
+    """The mean thickness of the parts' strokes, in pixels."""
+    parts = tuple(parts)
+    return SLANT * 2 * sum(part.area for part in parts) / max(1, sum(part.outline for part in parts))
+
+
+def lines_of(parts: Sequence[Part]) -> list[list[tuple[Part, Box]]]:
+    """The covers of parts, those of one line together: parts of one colour, side by side, nearer than half the
+    taller one's height; a dot or an accent belongs to the letter below or above it."""
+    items = sorted(((part, box) for part in parts for box in part.covers), key=lambda one: one[1].left)
+    parent = list(range(len(items)))
+
+    def root(k: int) -> int:
+        while parent[k] != k:
+            parent[k] = parent[parent[k]]
+            k = parent[k]
+        return k
+
+    cells: dict[tuple[tuple[int, ...], bool, int, int], list[int]] = {}
+    for k, (part, box) in enumerate(items):
+        around = box.grown(int(min(max(4, 0.6 * (box.lower - box.upper)), 60)))
+        for row in range(around.upper // 32, around.lower // 32 + 1):
+            for column in range(around.left // 64, around.right // 64 + 1):
+                cell = cells.setdefault((part.colour, part.attached, row, column), [])
+                for other in cell:
+                    if root(other) != root(k) and are_beside(box, items[other][1]):
+                        parent[root(other)] = root(k)
+                cell.append(k)
+    together: dict[int, list[tuple[Part, Box]]] = {}
+    for k, item in enumerate(items):
+        together.setdefault(root(k), []).append(item)
+    return list(together.values())
+
+
+def are_beside(one: Box, other: Box) -> bool:
+    """Whether two boxes stand in one line."""
+    heights = sorted((one.lower - one.upper, other.lower - other.upper))
+    across = max(one.left, other.left) - min(one.right, other.right)
+    down = max(one.upper, other.upper) - min(one.lower, other.lower)
+    in_line = down < -0.3 * heights[0] and across < 0.5 * heights[1]
+    dot = heights[0] < 0.4 * heights[1] and down < 0.25 * heights[1] and across < 0.1 * heights[1]
+    return in_line or dot
+
+
+def reach_for(stroke: float, slides: bool = False, attached: bool = False, slack: float = SLACK) -> float:
+    """The greatest reach that leaves a stroke at least a third: no more pixels on either side than a third of its
+    thickness.
+
+    Reaches between the engine's steps are alike, so the answer is one of them. A stroke of less than three pixels
+    gets half a pixel, the least that traps at all, and one of less than 1.5 pixels no trap. A centred trap would
+    fill both the stroke and its rim there, so it begins a little later. What is attached to a thick shape gets a
+    reach that closes slanted edges too.
+    """
+    third = stroke / SHARE
+    if attached:
+        third = max(third, CLOSING)
+    if third < (LEAST_CENTRED if slides else REACHES[0]):
+        return 0.0
+    most = max(math.floor(third), 1) + 0.5 - ROUNDING
+    return max(reach for reach in REACHES if reach <= min(third + slack, most))
+
+
+def narrow_lines(parts: Sequence[Part], rule: Rule, resolution: int) -> list[Line]:
+    """The lines whose trap has to be narrower than the page's, each with its width."""
+    found = []
+    for items in lines_of(parts):
+        members = tuple(part for part, _ in items)
+        slides = sum(1 if part.slides else -1 for part in members) > 0
+        stroke = stroke_of(members)
+        slack = LIGHTER_SLACK if all(part.lighter for part in members) else SLACK
+        reach = reach_for(stroke, slides, members[0].attached, slack)
+        pixels = (reach + ROUNDING) * (2 if slides else 1) if reach else 0.0
+        if pixels < rule.width * resolution / 72 - 0.01:
+            pieces = tuple(replace(part, box=box, covers=(box,)) for part, box in items)
+            found.append(Line(pieces, stroke, slides, reach, pixels * 72 / resolution))
+    return found
+
+
+# Zones
+
+def boxes_by_width(lines: Sequence[Line], rule: Rule, resolution: int) -> dict[float, list[Box]]:
+    """For each width in points, the widest first, the boxes that get it: those of the strokes with the page's own
+    trap around, since the trap of a light stroke lies outside it. Boxes in a row are joined."""
+    around = math.ceil(rule.width * resolution / 72)
+    found: dict[float, list[Box]] = {}
+    for line in lines:
+        found.setdefault(line.width, []).extend(part.box.grown(around) for part in line.parts)
+    return {width: joined(found[width], resolution * NEAR_INCHES) for width in sorted(found, reverse=True)}
+
+
+def joined(boxes: Sequence[Box], gap: float) -> list[Box]:
+    """Boxes that stand in a row with at most `gap` pixels between them are one, and then those one above the
+    other."""
+    rows: list[Box] = []
+    for box in sorted(boxes, key=lambda one: (one.upper // 8, one.left)):
+        last = rows[-1] if rows else None
+        if last and box.left - last.right <= gap and _share(last.upper, last.lower, box.upper, box.lower) > 0.5:
+            rows[-1] = _around(last, box)
+        else:
+            rows.append(box)
+    out: list[Box] = []
+    for box in sorted(rows, key=lambda one: (one.left, one.right, one.upper)):
+        last = out[-1] if out else None
+        if last and abs(box.left - last.left) < 2 and abs(box.right - last.right) < 2 and box.upper - last.lower <= gap:
+            out[-1] = _around(last, box)
+        else:
+            out.append(box)
+    return out
+
+
+def _share(first: int, end: int, other_first: int, other_end: int) -> float:
+    """How much of the shorter one of two spans both have in common."""
+    return (min(end, other_end) - max(first, other_first)) / max(1, min(end - first, other_end - other_first))
+
+
+def _around(one: Box, other: Box) -> Box:
+    return Box(min(one.left, other.left), min(one.upper, other.upper), max(one.right, other.right),
+               max(one.lower, other.lower))
+
+
+# What traps leave of strokes
+
+def own_share(planes: Sequence[Plane], inks: Sequence[Ink], rule: Rule, lines: Sequence[Line],
+              reaches: Sequence[float]) -> float:
+    """The share of the strokes' pixels that no trap changes, with a reach in pixels for each line. Of many parts
+    some are measured, evenly spread; 1.0 if there is none."""
+    counted = [(plane, ink) for plane, ink in zip(planes, inks) if ink.counts]
+    steps = steps_of([ink for _, ink in counted], rule)
+    items = [(part, reach) for line, reach in zip(lines, reaches) for part in line.parts]
+    kept = total = 0
+    for part, reach in items[::max(1, len(items) // MOST_MEASURED)]:
+        around = part.box.grown(math.ceil(reach) + 1)
+        rows = slice(max(0, around.upper), around.lower)
+        columns = slice(max(0, around.left), around.right)
+        crops = [np.ascontiguousarray(plane[rows, columns]) for plane, _ in counted]
+        own = np.logical_and.reduce([(255 - crop) // 32 == tint for crop, tint in zip(crops, part.colour)])
+        total += int(own.sum())
+        if not part.lighter:
+            edges = edges_of(crops, steps)
+            own &= ~within_reach(edges.right_calls, edges.lower_calls, reach)
+        kept += int(own.sum())
+    return kept / total if total else 1.0
+
+
+def within_reach(right: Mask, lower: Mask, reach: float) -> Mask:
+    """The pixels whose middle is at most so far from the middle of an edge."""
+    out = np.zeros_like(right)
+    far = math.ceil(reach)
+    for down in range(-far, far + 1):
+        for across in range(-far, far + 1):
+            if math.hypot(down, across - 0.5) <= reach:
+                _or_moved(out, right, down, across)
+            if math.hypot(down - 0.5, across) <= reach:
+                _or_moved(out, lower, down, across)
+    return out
+
+
+def _or_moved(out: Mask, mask: Mask, down: int, across: int) -> None:
+    """Adds a mask that is moved by so many rows and columns."""
+    height, width = out.shape
+    rows, columns = max(0, height - abs(down)), max(0, width - abs(across))
+    top, left = max(0, down), max(0, across)
+    from_top, from_left = max(0, -down), max(0, -across)
+    out[top:top + rows, left:left + columns] |= mask[from_top:from_top + rows, from_left:from_left + columns]
