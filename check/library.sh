@@ -20,9 +20,25 @@ mkdir -p "$out"
 rm -rf "${out:?}"/*
 library=$top/library/out
 
+# What the library asks the system for: memory, and moving it. So it opens no file and starts no thread. And it keeps nothing: the
+# archive has one variable, a byte whose address stands for a block that was refused, and which nobody reads or writes; the shared
+# object has, besides, what the linker puts into each, 8 bytes of .data and of .bss in all.
+bare() {
+  local wanted="free malloc memcpy memmove memset realloc" found
+  found=$(nm -D --undefined-only "$library/libtrap.so.1" | sed -n 's/^ *U \([^@]*\).*/\1/p' | sort | tr '\n' ' ')
+  [ "$found" = "$wanted " ] || { echo "check/library.sh: libtrap.so.1 asks for $found" >&2; return 1; }
+  found=$(size -A "$library/libtrap.so.1" | awk '$1 ~ /^[.](t?data|t?bss)$/ { sum += $2 } END { print sum + 0 }')
+  [ "$found" -le 16 ] || { echo "check/library.sh: libtrap.so.1 has $found bytes of variables" >&2; return 1; }
+  found=$(nm "$library/libtrap.a" | awk '$2 ~ /^[BbCDdGgSs]$/ { print $3 }')
+  [ "$found" = nothing ] || { echo "check/library.sh: libtrap.a has other variables: $found" >&2; return 1; }
+  echo "library: it asks for ${wanted// /, } alone, and keeps nothing"
+}
+
 # compiled NAME WORD ..: a program of this folder, against the header.
 compiled() { "$CC" -std=c99 -O2 -g -Wall -Wextra -Werror -I"$top/library" -o "$out/$1" "$here/library/$1.c" "${@:2}"; }
 
+python3 -B "$here/library/boundary.py"
+if there nm && there size; then bare; else skip "what the library asks for" "there is no nm"; fi
 python3 -B "$here/library.py" "$1" "$2"
 if python3 -c 'import numpy' 2>/dev/null; then
   TRAP_LIBRARY=$library/libtrap.so.1 python3 -B "$here/library/arrays.py"
@@ -35,6 +51,8 @@ compiled refused "$library/libtrap.a" -Wl,--wrap=malloc,--wrap=realloc,--wrap=fr
 shared=(-pthread -L"$library" -ltrap "-Wl,-rpath,$library")
 compiled threads "${shared[@]}"
 "$out/threads"
+compiled stack -pthread "$library/libtrap.a"
+"$out/stack"
 
 # The page of the poster, whose files are written as they have to be.
 plates() {

@@ -1,0 +1,79 @@
+/* SPDX-License-Identifier: Apache-2.0 */
+/* stack: each export of the library, from a thread whose stack has 65,536 bytes, over a page of sixteen planes with zones, and over
+ * one whose job has a fault. A call that needed more would end the process. */
+#include <limits.h>
+#include <pthread.h>
+#include <stdio.h>
+#include <stdlib.h>
+#include <string.h>
+
+#include "trap.h"
+
+enum { WIDTH = 96, HEIGHT = 64, PLANES = TRAP_MOST_PLANES, SAMPLES = PLANES * WIDTH * HEIGHT, STACK = 65536, ZONES = 60 };
+
+/* The job has a detail for each plane and ZONES squares, each its own zone. */
+static char job[16384], names[256];
+static uint8_t bytes[SAMPLES], text[TRAP_TEXT_SIZE];
+static uint16_t words[SAMPLES];
+static const struct trap_place place = {WIDTH, HEIGHT, 0, 0, 0, 0, WIDTH, HEIGHT};
+
+static void write_job(void) {
+  char *at = job;
+  at += sprintf(at, "<< /HWResolution [600 600] /TrappingDetails << /Type 1001 /ColorantDetails << ");
+  for (int k = 0; k < PLANES; k++) {
+    at += sprintf(at, "/Ink%d << /NeutralDensity %d.%d >> ", k, k / 8, k % 8 + 1);
+    sprintf(names + strlen(names), "%sInk%d", k ? "\n" : "", k);
+  }
+  at += sprintf(at, ">> >> >> setpagedevice << /TrapWidth 0.5 /BlackWidth 2 >> settrapparams ");
+  for (int z = 0; z < ZONES; z++)
+    at += sprintf(at, "%d %d moveto %d %d lineto %d %d lineto %d %d lineto closepath settrapzone ", z % 10, z / 10, z % 10 + 2, z / 10,
+                  z % 10 + 2, z / 10 + 2, z % 10, z / 10 + 2);
+  sprintf(at, "showpage");
+}
+
+static void draw(void) {
+  for (int k = 0; k < SAMPLES; k++) {
+    unsigned x = k % WIDTH / 5, y = k / WIDTH % HEIGHT / 5, c = k / (WIDTH * HEIGHT);
+    words[k] = bytes[k] = (uint8_t)((x * 7 + y * 13 + c * 29) % 5 < 2 ? 0 : 255);
+  }
+}
+
+static void want(const char *call, trap_status status, trap_status wanted) {
+  if (status == wanted) return;
+  printf("stack: %s answers %d, and not %d: %.200s\n", call, status, wanted, (const char *)text);
+  exit(1);
+}
+
+/* All exports, with so many bytes of the job; cut short it has a fault. */
+static void *call_all(void *given) {
+  size_t size = *(size_t *)given, count = strlen(names), len;
+  const uint8_t *told = (const uint8_t *)job, *listed = (const uint8_t *)names;
+  trap_status wanted = size == strlen(job) ? TRAP_DONE : TRAP_JOB;
+  uint32_t halo;
+  draw();
+  want("trap_planes8", trap_planes8(told, size, listed, count, bytes, SAMPLES, WIDTH, HEIGHT, WIDTH, 255, text, sizeof text, &len),
+       wanted);
+  want("trap_planes16", trap_planes16(told, size, listed, count, words, SAMPLES, WIDTH, HEIGHT, WIDTH, 255, text, sizeof text, &len),
+       wanted);
+  want("trap_window8",
+       trap_window8(told, size, listed, count, bytes, SAMPLES, WIDTH, HEIGHT, WIDTH, 255, &place, text, sizeof text, &len), wanted);
+  want("trap_window16",
+       trap_window16(told, size, listed, count, words, SAMPLES, WIDTH, HEIGHT, WIDTH, 255, &place, text, sizeof text, &len), wanted);
+  want("trap_halo", trap_halo(told, size, &halo, text, sizeof text, &len), wanted);
+  want("trap_version", trap_version() == TRAP_VERSION ? TRAP_DONE : TRAP_CALL, TRAP_DONE);
+  return NULL;
+}
+
+int main(void) {
+  pthread_attr_t small;
+  write_job();
+  size_t sizes[] = {strlen(job), strlen(job) / 2};
+  pthread_attr_init(&small);
+  if (pthread_attr_setstacksize(&small, STACK)) return 1;
+  for (size_t k = 0; k < sizeof sizes / sizeof *sizes; k++) {
+    pthread_t thread;
+    if (pthread_create(&thread, &small, call_all, &sizes[k]) || pthread_join(thread, NULL)) return 1;
+  }
+  printf("library: each call fits into a thread of %d bytes of stack\n", STACK);
+  return 0;
+}
