@@ -38,6 +38,8 @@ PROGRAMS := $(shell awk '!/^\#/ && NF { print $$1 }' programs.txt)
 # Each program as it is built or released.
 BUILT = $(if $(BIN),$(wildcard $(PROGRAMS:%=$(BIN)/%)),$(foreach one,$(PROGRAMS),$(shell tools/program --there $(one))))
 COMMANDS := check plates trap tiff look proof all farm farm.sbatch watch slurm-here press trapper
+# The folders of the press room's Python package.
+PACKAGE := $(shell find python/press -type d ! -name __pycache__)
 LIBRARY := library/out/libtrap.so.1 library/out/libtrap.a
 PAGES1 := $(wildcard man/*.1)
 PAGES5 := $(wildcard man/*.5)
@@ -73,9 +75,13 @@ install-programs: programs
 	for one in $(PROGRAMS); do ln -sfr $(DESTDIR)$(OWN)/launch $(DESTDIR)$(bindir)/$$one || exit 1; done
 
 install-press:
-	$(INSTALL) -d $(DESTDIR)$(bindir) $(DESTDIR)$(PRESS)/lib $(DESTDIR)$(PRESS)/inks $(DESTDIR)$(PRESS)/presets $(DESTDIR)$(completiondir)
+	$(INSTALL) -d $(DESTDIR)$(bindir) $(DESTDIR)$(PRESS)/lib $(DESTDIR)$(PRESS)/inks $(DESTDIR)$(PRESS)/presets \
+	  $(DESTDIR)$(OWN)/docs $(DESTDIR)$(completiondir) $(PACKAGE:python/%=$(DESTDIR)$(OWN)/python/%)
 	$(INSTALL_PROGRAM) $(COMMANDS:%=press/%) $(DESTDIR)$(PRESS)
-	$(INSTALL_DATA) press/lib/*.py press/lib/press.sh press/lib/proof.css press/lib/proof.js docs/JOBS.md $(DESTDIR)$(PRESS)/lib
+	$(INSTALL_DATA) press/press.sh $(DESTDIR)$(PRESS)
+	$(INSTALL_DATA) press/lib/proof.css press/lib/proof.js $(DESTDIR)$(PRESS)/lib
+	$(INSTALL_DATA) docs/JOBS.md $(DESTDIR)$(OWN)/docs
+	for one in $(PACKAGE); do find $$one -maxdepth 1 -type f -exec $(INSTALL_DATA) {} $(DESTDIR)$(OWN)/$$one \; || exit 1; done
 	$(INSTALL_DATA) press/inks/*.inks $(DESTDIR)$(PRESS)/inks
 	$(INSTALL_DATA) press/presets/*.preset $(DESTDIR)$(PRESS)/presets
 	ln -sfr $(DESTDIR)$(PRESS)/press $(DESTDIR)$(bindir)/press
@@ -131,14 +137,14 @@ DEB_PLACES = prefix=/usr libexecdir=/usr/lib libdir=/usr/lib/$(shell $(CC) -prin
 deb: all
 	rm -rf out/deb out/deb-dev
 	$(MAKE) --no-print-directory install-programs install-press install-library install-manuals DESTDIR=$(CURDIR)/out/deb $(DEB_PLACES)
-	press/lib/deb-control out/deb $(PROGRAMS)
+	tools/deb-control out/deb $(PROGRAMS)
 	dpkg-deb --build --root-owner-group out/deb out
 	$(MAKE) --no-print-directory install-headers DESTDIR=$(CURDIR)/out/deb-dev $(DEB_PLACES)
 	install -d out/deb-dev/usr/share/doc/libtrap-dev/examples
 	install -m 644 docs/LIBRARY.md out/deb-dev/usr/share/doc/libtrap-dev
 	install -m 644 examples/library/page.c examples/library/bands.c examples/library/rip.c examples/library/plates.h \
 	  out/deb-dev/usr/share/doc/libtrap-dev/examples
-	press/lib/deb-control --dev out/deb-dev && dpkg-deb --build --root-owner-group out/deb-dev out
+	tools/deb-control --dev out/deb-dev && dpkg-deb --build --root-owner-group out/deb-dev out
 
 lint:
 	tools/lint

@@ -205,9 +205,6 @@ try_tools() {
   local path
   path=$(without gs)
   refused 3 "press-plates: gs is not there \(Debian: apt install ghostscript\)" env PATH="$path" "$here/plates" two.pdf new
-  path=$(without tifftopnm pamtotiff)
-  refused 3 "press-plates: tifftopnm is not there .*" env PATH="$path" "$here/plates" two.pdf new
-  refused 3 "press-tiff: pamtotiff is not there .*" env PATH="$path" "$here/tiff" --untrapped two new
   path=$(without parallel inotifywait)
   refused 3 "press-farm: parallel is not there .*" env PATH="$path" "$here/farm" two.pdf new
   refused 3 "press-watch: inotifywait is not there .*" env PATH="$path" "$here/watch" hot
@@ -219,7 +216,8 @@ try_tools() {
   mkdir ../bare-bin && printf '#!/bin/sh\n' >../bare-bin/trap && chmod +x ../bare-bin/trap
   refused 3 "press-trap: the program presscheck is not there: .*" env TRAP_BIN="$PWD/../bare-bin" "$here/trap" two --check 1
   # A repository without built programs: none is built, and what to do is told.
-  mkdir -p ../fresh/crates/trap ../fresh/press ../fresh/bin && cp -r "$here/trap" "$here/lib" ../fresh/press/
+  mkdir -p ../fresh/crates/trap ../fresh/press ../fresh/bin ../fresh/tools && cp "$here/trap" ../fresh/press/
+  cp -r "$top/VERSION" "$top/programs.txt" "$top/crates.txt" "$top/python" ../fresh/ && cp "$top/tools/program" ../fresh/tools/
   # shellcheck disable=SC2016
   printf '#!/bin/sh\ntouch "${0%%/*}/ran"\nexit 2\n' >../fresh/bin/trap && chmod +x ../fresh/bin/trap
   path=$(without trap)

@@ -3,7 +3,7 @@
 import shutil
 from pathlib import Path
 
-from room import COMMANDS, Room
+from room import TOP, Room
 
 
 def test_missing_tools(room: Room, two: Path) -> None:
@@ -16,12 +16,13 @@ def test_missing_tools(room: Room, two: Path) -> None:
     room.refused(3, r"press-watch: inotifywait is not there \(Debian: apt install inotify-tools\)", "watch", "hot", env=path)
 
 
-def test_missing_converters(room: Room, two: Path) -> None:
-    """Plates need tifftopnm, and TIFF files pamtotiff."""
-    assert two.is_dir()
+def test_no_converters(room: Room, two: Path) -> None:
+    """Plates and TIFF files need none of Netpbm's tools."""
     path = room.without("tifftopnm", "pamtotiff")
-    room.refused(3, r"press-plates: tifftopnm is not there .*", "plates", "two.pdf", "new", env=path)
-    room.refused(3, r"press-tiff: pamtotiff is not there .*", "tiff", "--untrapped", "two", "new", env=path)
+    room.goes("plates", "two.pdf", "new", "--kind", "Gold Foil=Normal", env=path)
+    assert (room / "new/Cyan.pgm").read_bytes() == (two / "Cyan.pgm").read_bytes()
+    room.goes("tiff", "--untrapped", "two", "tiffs", env=path)
+    assert (room / "tiffs/two-1(Cyan).tif").stat().st_size > 0
 
 
 def test_missing_programs(room: Room, two: Path) -> None:
@@ -47,12 +48,13 @@ def test_repository_without_built_programs(room: Room, two: Path) -> None:
     """In a repository where trap is not built, none is built, and the line says what to do."""
     assert two.is_dir()
     fresh = room.beside / "fresh"
-    (fresh / "crates" / "trap").mkdir(parents=True)
-    (fresh / "press").mkdir()
-    shutil.copy(COMMANDS / "trap", fresh / "press")
-    shutil.copytree(COMMANDS / "lib", fresh / "press" / "lib")
-    (fresh / "trap").write_text('#!/bin/sh\ntouch "${0%/*}/ran"\nexit 2\n')
-    (fresh / "trap").chmod(0o755)
-    room.refused(3, r"press-trap: the program trap is not built yet: /.*/fresh/trap does it, .*; or TRAP_BIN names .*",
+    for name in ("crates/trap", "press", "tools", "bin"):
+        (fresh / name).mkdir(parents=True)
+    for name in ("VERSION", "programs.txt", "crates.txt", "press/trap", "tools/program"):
+        shutil.copy(TOP / name, fresh / name)
+    shutil.copytree(TOP / "python" / "press", fresh / "python" / "press", ignore=shutil.ignore_patterns("__pycache__", "desk"))
+    (fresh / "bin" / "trap").write_text('#!/bin/sh\ntouch "${0%/*}/ran"\nexit 2\n')
+    (fresh / "bin" / "trap").chmod(0o755)
+    room.refused(3, r"press-trap: the program trap is not built yet: /.*/fresh/bin/trap does it, .*; or TRAP_BIN names .*",
                  fresh / "press" / "trap", "two", env={"TRAP_BIN": None, **room.without("trap")})
     assert not (fresh / "ran").exists(), "a program was built without being asked for"

@@ -63,6 +63,19 @@ class Parser(argparse.ArgumentParser):
             raise UsageError(f"{option[1]} takes no value")
         raise UsageError(message)
 
+    def words(self, options: argparse.Namespace, leave: Sequence[str] = ()) -> list[str]:
+        """The options that were given as words of another command, but for those to leave."""
+        words = []
+        for one in self._actions:
+            value, name = getattr(options, one.dest, None), one.option_strings[-1]
+            if value is None or value == one.default or one.dest in leave:
+                continue
+            if one.nargs == 0:
+                words.append(name)
+            else:
+                words += [f"{name}={part}" for part in (value if isinstance(value, list) else [value])]
+        return words
+
     def read(self, words: Sequence[str]) -> argparse.Namespace:
         """The options, and the operands as `operands`."""
         options, rest = self.parse_known_args(words)
@@ -104,6 +117,11 @@ def say(text: str) -> None:
     print(clean(f"{command_name()}: {text}"), file=sys.stderr, flush=True)
 
 
+def warn(text: str) -> None:
+    """A warning, printed once."""
+    LOG.warning("%s", text)
+
+
 def stop(number: int, _: Any) -> NoReturn:
     """Ends the command. What it made is cleared away on the way out, which a second signal does not stop."""
     for one in STOPS:
@@ -126,9 +144,14 @@ def prepare() -> None:
 
 def run(main: Callable[[argparse.Namespace], int], parser: Parser) -> NoReturn:
     """Calls a command's main with its options, and ends with its status."""
+    run_words(lambda words: main(parser.read(words)))
+
+
+def run_words(main: Callable[[Sequence[str]], int]) -> NoReturn:
+    """Calls a command's main with its arguments as they are, and ends with its status."""
     prepare()
     try:
-        status = main(parser.read(sys.argv[1:]))
+        status = main(sys.argv[1:])
     except UsageError as refusal:
         say(f"{refusal} (see {command_name()} --help)")
         status = Status.USAGE

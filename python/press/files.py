@@ -82,6 +82,12 @@ def table_lines(path: str) -> list[str]:
         raise PressError(Status.INPUT, what_it_is(text), path) from fault
 
 
+def beside(path: str, *ends: str) -> list[str]:
+    """Those of the files NAME.END that stand beside NAME.pdf."""
+    stem = os.path.splitext(path)[0]
+    return [f"{stem}.{end}" for end in ends if os.path.isfile(f"{stem}.{end}")]
+
+
 def need_folder(path: str) -> None:
     """Refuses a path that is no folder."""
     if not os.path.isdir(path):

@@ -12,7 +12,7 @@ from dataclasses import dataclass, field
 
 from . import tables
 from .errors import UsageError
-from .files import table_lines
+from .files import beside, table_lines
 from .names import PROCESS, file_name, readable
 from .settings import Settings, house_file
 from .tools import PRESS
@@ -190,6 +190,11 @@ def guess(look: Look) -> str:
     """A spot's density from the process inks that look like it."""
     density = sum(density * part / 100 for (density, _), part in zip(PROCESS.values(), look))
     return f"{min(10, max(LEAST_GUESS, density)):.2f}"
+
+
+def open_book(settings: Settings, path: str) -> "InkBook":
+    """What is known of inks for a file, with the table of --inks, or the one beside it."""
+    return InkBook(settings, settings.inks or next(iter(beside(path, "inks")), None))
 
 
 @dataclass

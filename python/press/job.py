@@ -3,7 +3,6 @@
 it makes. What a job means is for the program to say; here nothing is refused that it takes.
 """
 import difflib
-import os
 import re
 from collections.abc import Iterator, Mapping, Sequence
 from dataclasses import dataclass, field, replace
@@ -11,7 +10,7 @@ from typing import NamedTuple
 
 from . import tables
 from .errors import PressError, Status
-from .files import BYTE_ORDER_MARK, bytes_of, is_utf16
+from .files import BYTE_ORDER_MARK, beside, bytes_of, is_utf16
 from .folder import PageSource
 from .inks import Ink
 from .names import file_name, readable
@@ -123,12 +122,6 @@ def read_statements(paths: Sequence[str]) -> list[Statement]:
             raise PressError(Status.INPUT, "in UTF-16: save it as UTF-8", path)
         found.append(Statement(path, text.removeprefix(BYTE_ORDER_MARK)))
     return found
-
-
-def beside(path: str, *ends: str) -> list[str]:
-    """Those of the files NAME.END that stand beside NAME.pdf."""
-    stem = os.path.splitext(path)[0]
-    return [f"{stem}.{end}" for end in ends if os.path.isfile(f"{stem}.{end}")]
 
 
 def zones_files(settings: Settings, path: str, page: int) -> list[str]:

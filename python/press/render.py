@@ -43,9 +43,10 @@ class Rendering:
 
 def render(source: Source, page: int, settings: Settings, folder: str) -> Rendering:
     """Renders a page in a scratch folder at the settings' resolution. Refuses a page that Ghostscript cannot read."""
-    words = ["-dBATCH", "-dPDFSTOPONERROR", "-sDEVICE=tiffsep", f"-r{settings.dpi}", "-sCompression=none",
-             "-dMaxSpots=60", "-dPrintSpotCMYK", f"-dFirstPage={page}", f"-dLastPage={page}", "-sOutputFile=page.tif",
-             *BOX_OPTIONS[settings.box]]
+    # Ghostscript 10.00 leaves the plates of spots blank on a page with transparency that it draws without bands.
+    words = ["-dBATCH", "-dPDFSTOPONERROR", "-sDEVICE=tiffsep", "-dMaxBitmap=0", f"-r{settings.dpi}",
+             "-sCompression=none", "-dMaxSpots=60", "-dPrintSpotCMYK", f"-dFirstPage={page}", f"-dLastPage={page}",
+             "-sOutputFile=page.tif", *BOX_OPTIONS[settings.box]]
     link(source.pdf, folder, "in.pdf")
     if settings.icc:
         link(settings.icc, folder, "output.icc")

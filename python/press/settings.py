@@ -291,9 +291,19 @@ def add_run_options(parser: argparse.ArgumentParser) -> None:
              "most traps out of register")
 
 
+def add_made_options(parser: argparse.ArgumentParser) -> None:
+    """The options of what is made of each page on the whole way."""
+    add_run_options(parser)
+    add_engine_options(parser)
+    add_tiff_options(parser)
+    add_page_options(parser)
+
+
 def add_page_choice(parser: argparse.ArgumentParser) -> None:
     """The option for pages, and those that judge them."""
     add = parser.add_argument
-    add("-P", "--page", metavar="K", action="append", help="this page alone; also J-K, and several with commas between them")
+    add("-P", "--page", metavar="K", action="append",
+        help="this page alone; also J-K, and several with commas between them")
     add("-s", "--strict", action="store_true", default=None, help="a page that is warned of is refused")
-    add("-j", "--jobs", metavar="N", type=whole("--jobs", 1, MOST_JOBS), help="how many pages are done at once; 1 where it is left out")
+    add("-j", "--jobs", metavar="N", type=whole("--jobs", 1, MOST_JOBS),
+        help="how many pages are done at once; 1 where it is left out")

@@ -13,7 +13,8 @@ TRIED = "PRESS_PYTHON"
 
 def command_name() -> str:
     """How the running command calls itself in what it prints."""
-    return "press-" + os.path.basename(sys.argv[0])
+    name = os.path.basename(sys.argv[0])
+    return name if name == "trapper" else "press-" + name
 
 
 def need_libraries(*modules: str) -> None:

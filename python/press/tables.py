@@ -1,15 +1,14 @@
 # SPDX-License-Identifier: Apache-2.0
-"""What the job language has, by the tables of docs/JOBS.md: the parameters, and the kinds of ink. Where the
-commands are installed a copy of that document stands in the folder press/lib.
+"""What the job language has, by the tables of docs/JOBS.md: the parameters, and the kinds of ink.
 """
 import functools
 import os
 from dataclasses import dataclass
 
 from .errors import PressError, Status
-from .tools import PRESS, TOP
+from .tools import TOP
 
-PLACES = (os.path.join(PRESS, "lib", "JOBS.md"), os.path.join(TOP, "docs", "JOBS.md"))
+PLACE = os.path.join(TOP, "docs", "JOBS.md")
 
 
 @dataclass(frozen=True)
@@ -23,11 +22,11 @@ class Kind:
 @functools.lru_cache(maxsize=None)
 def document() -> list[list[str]]:
     """The lines of the document, each as its cells without marks of code."""
-    for place in PLACES:
-        if os.path.exists(place):
-            with open(place, encoding="utf-8") as file:
-                return [[cell.strip().strip("`") for cell in line.strip().strip("|").split("|")] for line in file]
-    raise PressError(Status.NO_TOOL, f"the tables of the job language are not there: no {PLACES[0]}")
+    try:
+        with open(PLACE, encoding="utf-8") as file:
+            return [[cell.strip().strip("`") for cell in line.strip().strip("|").split("|")] for line in file]
+    except OSError as fault:
+        raise PressError(Status.NO_TOOL, f"the tables of the job language are not there: no {PLACE}") from fault
 
 
 def rows_of(*head: str) -> list[list[str]]:

@@ -2,6 +2,7 @@
 """External programs: where they are found, and how they are run, limited and stopped."""
 import contextlib
 import ctypes
+import functools
 import logging
 import os
 import resource
@@ -145,6 +146,7 @@ def program(name: str, build: bool = False) -> str:
     raise PressError(Status.NO_TOOL, f"the program {name} is not there")
 
 
+@functools.lru_cache(maxsize=None)
 def built_program(name: str, build: bool) -> str:
     """The program as it is built in the repository, or released for the same sources; empty if there is none."""
     done = run([FINDER, name] if build else [FINDER, "--there", name], stderr=None if build else subprocess.DEVNULL)

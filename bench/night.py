@@ -1,4 +1,5 @@
 #!/usr/bin/env python3
+# SPDX-License-Identifier: Apache-2.0
 """Simulates a night's work of many pages on many machines with one file server: night.py [NAME=NUMBER ..].
 
   pages=100000 machines=50 processors=16   how much there is to do, and by how many

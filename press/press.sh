@@ -3,7 +3,7 @@
 
 name=press-$(basename "$0")
 
-# The statuses of lib/press.py.
+# The statuses of python/press/errors.py.
 usage=2 no_tool=3 input=4 output=8
 
 say() { printf '%s: %s\n' "$name" "$1" >&2; }
@@ -17,7 +17,7 @@ need() { command -v "$1" >/dev/null || refuse "$no_tool" "$1 is not there (Debia
 # Prints the comment at the head of the command, and the statuses.
 help() {
   sed -n '2,/^$/{s/^# \{0,1\}//;p}' "$0"
-  sed -n '/^STATUSES = /,/^"""/{s/^STATUSES = """//;/^"""/d;p}' "$here/lib/press.py"
+  sed -n '/^STATUSES = /,/^"""/{s/^STATUSES = """//;/^"""/d;p}' "$here/../python/press/errors.py"
 }
 
 # Prints the project's version, which stands beside the folder press.

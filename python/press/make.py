@@ -1,0 +1,135 @@
+# SPDX-License-Identifier: Apache-2.0
+"""A page made into a folder of its own: from a PDF, or from the separations of another RIP."""
+import os
+import shutil
+from collections.abc import Iterable, Iterator, Sequence
+from dataclasses import dataclass
+
+from . import job, preflight, tiff, tools
+from .errors import PressError, Status, UsageError
+from .events import FindingMade, Observer, RunStarted, silent
+from .files import folder_beside, head_of, put_folder
+from .findings import WARNING, Finding, refusal_for
+from .folder import TABLE, PageFolder, PageSource
+from .inks import InkBook, Separation, open_book, unsure_lines
+from .names import MOST_PLATES, PROCESS, job_names
+from .page import Page, prepare, write_folder, write_page
+from .plates import is_blank, write_pgm
+from .settings import Settings
+from .source import open_source
+
+
+def judge_place(folder: str, force: bool) -> None:
+    """Refuses a folder that is not new or empty; by `force` one of plates may be replaced."""
+    if not os.path.lexists(folder):
+        return
+    if not os.path.isdir(folder):
+        raise PressError(Status.OUTPUT, "exists and is no folder", folder)
+    if os.listdir(folder) and not (force and os.path.isfile(os.path.join(folder, TABLE))):
+        message = "exists and is not empty (--force replaces a folder that press/plates made)"
+        raise PressError(Status.OUTPUT, message, folder)
+
+
+def report(path: str, findings: Iterable[Finding], observer: Observer) -> None:
+    """Refuses the first fault, or reports what was found."""
+    found = list(findings)
+    refusal = refusal_for(path, found, False)
+    if refusal:
+        raise refusal
+    for one in found:
+        observer(FindingMade(one))
+
+
+def findings_of_inks(page: Page, book: InkBook) -> Iterator[Finding]:
+    """What has to be said of a page's images and inks, and of options for inks that it does not have. A table
+    may be for other pages too."""
+    if page.untraced:
+        yield Finding("images", WARNING, page.number, page.untraced)
+    for ink in page.inks:
+        yield from (Finding(kind, level, page.number, text) for kind, level, text in unsure_lines(ink))
+    yield from (Finding("inks-line", WARNING, page.number, line) for line, table in book.strangers() if table is None)
+
+
+def make_page(path: str, folder: str, number: int = 1, settings: Settings = Settings(), force: bool = False,
+              observer: Observer = silent) -> PageFolder:
+    """Makes a page of a file, counted from 1, into a folder that is new or empty: its plates, its job and its
+    table of colorants."""
+    head_of(path)
+    judge_place(folder, force)
+    book = open_book(settings, path)
+    job.own_statements(settings, path, number)
+    tools.tool("gs")
+    with folder_beside(folder) as made:
+        scratch = os.path.join(made, "scratch")
+        os.mkdir(scratch)
+        source = open_source(path, scratch, settings.time)
+        observer(RunStarted(path, (number,), source.count, source.converted))
+        report(path, preflight.check_file(source, settings, book, [number]), observer)
+        page = prepare(source, number, settings, book, scratch)
+        report(path, preflight.ghostscript_findings(page), observer)
+        write_page(page, settings, made)
+        report(path, findings_of_inks(page, book), observer)
+        shutil.rmtree(scratch)
+        put_folder(made, folder)
+    return PageFolder.read(folder)
+
+
+# Plates of another RIP
+
+@dataclass(frozen=True)
+class TiffPlates:
+    """Plates of another RIP: of each the colorant's name and a TIFF file; the resolution, if it is not to be
+    read from the files; and whether white is full ink."""
+
+    files: tuple[tuple[str, str], ...]
+    dpi: int | None = None
+    inverted: bool = False
+
+    @classmethod
+    def of(cls, words: Sequence[str], dpi: int | None, inverted: bool) -> "TiffPlates":
+        """The plates that --tiff NAME=FILE names."""
+        found: list[tuple[str, str]] = []
+        for word in words:
+            name, equals, path = word.partition("=")
+            if not equals or not name or not path:
+                raise UsageError(f"--tiff is NAME=FILE, and not '{word}'")
+            if any(name == other for other, _ in found):
+                raise UsageError(f"--tiff: {name} stands there twice")
+            found.append((name, path))
+        if len(found) > MOST_PLATES:
+            raise UsageError(f"--tiff: {len(found)} plates, and a job has at most {MOST_PLATES}")
+        return cls(tuple(found), dpi, inverted)
+
+    @property
+    def title(self) -> bytes:
+        """The name of the file that these are the separations of."""
+        first = os.path.basename(self.files[0][1])
+        return os.fsencode(first.partition("(")[0].removesuffix(".tif") + ".tif")
+
+    def separations(self) -> list[Separation]:
+        """The colorants."""
+        colorants = [os.fsencode(name) for name, _ in self.files]
+        return [Separation(colorant, tiff.suffix_of(colorant), PROCESS[name][1] if name in PROCESS else None, spelled)
+                for colorant, (name, _), spelled in zip(colorants, self.files, job_names(colorants))]
+
+
+def make_of_tiffs(given: TiffPlates, folder: str, settings: Settings = Settings(), force: bool = False,
+                  observer: Observer = silent) -> PageFolder:
+    """Makes a page of separations that another RIP made."""
+    files = [tiff.open_separation(path) for _, path in given.files]
+    settings = settings.but(dpi=tiff.resolution_of(given.dpi, files))
+    judge_place(folder, force)
+    book = InkBook(settings, settings.inks)
+    own = job.parameter_statement(settings) + job.read_statements([settings.zones] if settings.zones else [])
+    inks = []
+    with folder_beside(folder) as made:
+        for one, file in zip(given.separations(), files):
+            array, maxval = tiff.read_separation(file, given.inverted), (1 << file.bits) - 1
+            write_pgm(os.path.join(made, one.name + ".pgm"), array, maxval)
+            inks.append(book.ink(one, not is_blank(array, maxval)))
+        write_folder(made, PageSource(given.title, 1, settings.dpi), tuple(inks), own)
+        found = [Finding(kind, level, None, text) for ink in inks for kind, level, text in unsure_lines(ink)]
+        found += [Finding("inks-line", WARNING, None, line) for line, table in book.strangers() if table is None]
+        report(folder, found, observer)
+        put_folder(made, folder)
+    return PageFolder.read(folder)

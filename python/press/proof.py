@@ -1,0 +1,298 @@
+# SPDX-License-Identifier: Apache-2.0
+"""Proof sheets: one HTML file that fetches nothing, of a page or of all pages of a run."""
+import base64
+import functools
+import html
+import io
+import json
+import os
+from collections.abc import Iterable, Iterator, Sequence
+
+import numpy
+from PIL import Image
+
+from . import gaps
+from .engine import Report, read_report
+from .errors import PressError, Status
+from .files import whole_file, write_text
+from .folder import (JOB, JSON, NO_PLATES, PART, REPORT, SHEET, TABLE, TRAPPED, WARNINGS, JobFolder, PageFolder,
+                     read_table, read_text)
+from .names import readable
+from .picture import Light, Painter, Part, mean_of, pale, shifted, thickened, trap_width
+from .plates import Array
+from .tables import is_seen
+from .tools import PRESS
+
+MOST_PAGES, OVERVIEW, PLATE_WIDTH = 12, 1000, 240
+DETAIL_WIDTH, DETAIL_HEIGHT, BY_TRAPS, BY_BARED = 160, 120, 4, 2
+RED, BLUE = (215, 0, 30), (120, 150, 210)
+JPEG_QUALITY, LEAST_SHIFT = 88, 4
+escaped = html.escape
+
+
+# Sheets
+
+def write_sheet_of_page(folder: str) -> None:
+    """Writes the proof sheet of a page's folder into it."""
+    source = read_table(folder)[0]
+    title = f"Proof of {readable(source.pdf)}, page {source.page}"
+    write_sheet(os.path.join(folder, SHEET), title, "", [part_of_page(folder)])
+
+
+def write_sheet_of_all(out: str, asked: Sequence[int] = ()) -> None:
+    """Writes the proof sheet of the pages of a run into their folder: of those that are asked for, or of all, or of the
+    twelve with most traps if there are more."""
+    done, failed = JobFolder(out).pages()
+    if not done and not failed:
+        raise PressError(Status.NO_PLATES, "no plates here, and no pages of press/all", out)
+    changed = {page: read_report(folder).changed for page, folder in done.items()}
+    chosen = [page for page in done if page in asked] if asked else \
+        sorted(sorted(done, key=lambda page: -changed[page])[:MOST_PAGES])
+    rows: dict[int, list[str | int]] = {page: [str(page), "done", count, ""] for page, count in changed.items()}
+    rows.update((page, [f'<a href="#page-{page}">{page}</a>', *rows[page][1:]]) for page in chosen)
+    for page, why in failed.items():
+        rows[page] = [str(page), '<span class="fault">failed</span>', "", long(why)]
+    note = "" if len(chosen) == len(done) else (
+        f"<p>Of {len(done)} pages {len(chosen)} are drawn here, those with most traps or that were asked for; "
+        f"press/proof --page K draws others.</p>")
+    source = readable(read_table(done[chosen[0]])[0].pdf) if chosen else os.path.basename(out)
+    head = note + table(["page", "", "samples changed", ""], (rows[page] for page in sorted(rows)))
+    write_sheet(os.path.join(out, SHEET), f"Proof of {source}", head, (part_of_page(done[page]) for page in chosen))
+
+
+def write_part(folder: str) -> None:
+    """Writes what a page gives to the sheet of all into its folder."""
+    if not os.path.exists(os.path.join(folder, TABLE)):
+        raise PressError(Status.NO_PLATES, NO_PLATES, folder)
+    write_text(os.path.join(folder, PART), part_of_page(folder), "replace")
+
+
+def part_of_page(folder: str) -> str:
+    """A page's part: the one that stands there and is not older than the traps, or a new one."""
+    path, report = os.path.join(folder, PART), os.path.join(folder, TRAPPED, REPORT)
+    if os.path.isfile(path) and os.path.isfile(report) and os.path.getmtime(path) >= os.path.getmtime(report):
+        return read_text(path)
+    page = PageFolder.read(folder)
+    page.need_trapped()
+    return page_text(page)
+
+
+def write_sheet(path: str, title: str, head: str, parts: Iterable[str]) -> None:
+    """Writes a sheet of parts, with the style and the script in it."""
+    library = os.path.join(PRESS, "lib")
+    with whole_file(path) as made, open(made, "w", encoding="utf-8", errors="replace") as file:
+        file.write(f'<!DOCTYPE html>\n<html lang="en"><head><meta charset="utf-8"><title>{escaped(title)}</title>\n'
+                   f'<style>{read_text(library, "proof.css")}</style></head>\n<body><h1>{escaped(title)}</h1>\n'
+                   f"{head}\n")
+        file.writelines(part + "\n" for part in parts)
+        file.write(f'<script>{read_text(library, "proof.js")}</script></body></html>\n')
+
+
+# The pictures of a page
+
+class Sheet:
+    """The pictures of one page: `width` is how many samples wide its narrowest traps are, `radius` how far each
+    plate is off in the map, in samples, and a point of an overview is a square of `times` samples."""
+
+    def __init__(self, page: PageFolder) -> None:
+        self.page, self.painter, self.width = page, Painter(page, True), trap_width(page)
+        self.radius = max(1, int(self.width) // 2)
+        self.times = max(1, -(-page.head.width // OVERVIEW), -(-page.head.height // (OVERVIEW * 2)))
+        densities = [float(ink.density) if is_seen(ink.kind) else 0.0 for ink in page.inks]
+        self.bared_before, self.bared_after = (gaps.bared(planes, densities, self.radius)
+                                               for planes in (self.painter.before, self.painter.after))
+
+    def small_marks(self, where: Array) -> Array:
+        """Marks on the small picture: a point has one if some sample of it has, grown by a point."""
+        times = self.times
+        height, width = max(1, where.shape[0] // times), max(1, where.shape[1] // times)
+        cut = where[:height * times, :width * times]
+        return thickened(cut if times == 1 else cut.reshape(height, times, width, times).any(axis=(1, 3)), 1)
+
+    def overviews(self) -> tuple[Array, Array, Array, Array]:
+        """Before, after, the traps, and the map."""
+        painter = self.painter
+        before, after = painter.small(painter.before, self.times), painter.small(painter.after, self.times)
+        traps, bare = pale(before), pale(before)
+        for light, old, new in zip(painter.lights, painter.before, painter.after):
+            traps[self.small_marks(new < old)[:traps.shape[0], :traps.shape[1]]] = light
+        bare[self.small_marks(self.bared_before & ~self.bared_after)] = BLUE
+        bare[self.small_marks(self.bared_after)] = RED
+        return before, after, traps, bare
+
+    def details(self) -> list[Part]:
+        """The parts with most traps, and those with most that is still bared, as rectangles that do not overlap."""
+        found: list[Part] = []
+        for where, most in ((self.painter.changed, BY_TRAPS), (self.bared_after, BY_BARED)):
+            counts = counted_in_grid(where)
+            for at in numpy.argsort(counts, axis=None)[::-1][:most].tolist():
+                row, column = divmod(at, counts.shape[1])
+                part = self.part_at(row, column)
+                if counts[row, column] and part not in found:
+                    found.append(part)
+        return found
+
+    def part_at(self, row: int, column: int) -> Part:
+        """A part of the grid, moved onto the page."""
+        head = self.page.head
+        width, height = min(DETAIL_WIDTH, head.width), min(DETAIL_HEIGHT, head.height)
+        left, top = min(column * DETAIL_WIDTH, head.width - width), min(row * DETAIL_HEIGHT, head.height - height)
+        return left, top, width, height
+
+    def plate_parts(self, part: Part, margin: int) -> dict[str, list[str | None]]:
+        """Of each plate its part before and after as pictures, with what lies around it, or nothing if it is blank."""
+        left, top, width, height = part
+        grown = left - margin, top - margin, width + 2 * margin, height + 2 * margin
+        out = {}
+        for side, planes in (("before", self.painter.before), ("after", self.painter.after)):
+            parts = [shifted(plane, (0, 0), grown) for plane in planes]
+            out[side] = [data_uri(one) if at in self.painter.drawn and one.min() < 255 else None
+                         for at, one in enumerate(parts)]
+        return out
+
+
+def counted_in_grid(where: Array) -> Array:
+    """How many marks each part of a grid has."""
+    rows = numpy.add.reduceat(where, range(0, where.shape[0], DETAIL_HEIGHT), axis=0, dtype="i4")
+    counts: Array = numpy.add.reduceat(rows, range(0, where.shape[1], DETAIL_WIDTH), axis=1)
+    return counts
+
+
+# Pieces of HTML
+
+def data_uri(picture: Array, kind: str = "PNG") -> str:
+    """A picture as the address of itself."""
+    out = io.BytesIO()
+    how = {"quality": JPEG_QUALITY} if kind == "JPEG" else {"optimize": True}
+    Image.fromarray(numpy.ascontiguousarray(picture)).save(out, format=kind, **how)
+    return f"data:image/{kind.lower()};base64,{base64.b64encode(out.getvalue()).decode()}"
+
+
+def image(picture: Array, text: str) -> str:
+    """A picture of the sheet's width."""
+    return f'<img class="picture" src="{data_uri(picture)}" alt="{text}">'
+
+
+def table(heads: Sequence[str], rows: Iterable[Sequence[str | int]]) -> str:
+    """A table; numbers stand on the right."""
+    lines = ["<table><tr>" + "".join(f"<th>{escaped(head)}</th>" for head in heads) + "</tr>"]
+    for row in rows:
+        cells = "".join(f'<td class="number">{one:,}</td>' if isinstance(one, int) else f"<td>{one}</td>"
+                        for one in row)
+        lines.append(f"<tr>{cells}</tr>")
+    return "\n".join(lines) + "</table>"
+
+
+def swatch(light: Light) -> str:
+    """A square of a colour."""
+    color = "#" + "".join(f"{part:02x}" for part in light)
+    return f'<span class="swatch" style="background:{color}"></span>'
+
+
+def long(text: str) -> str:
+    """A name or a line, which may be broken anywhere."""
+    return f'<span class="long">{escaped(text)}</span>'
+
+
+# The parts of a page's part
+
+def page_text(page: PageFolder) -> str:
+    """The part of a sheet that is a page's."""
+    sheet, report = Sheet(page), read_report(page.path)
+    before, after, traps, bare = sheet.overviews()
+    add_to_json(sheet)
+    head = (f"<h2>{escaped(readable(page.source.pdf))}, page {page.source.page}</h2><p>{page.head.width} by "
+            f"{page.head.height} samples at {page.source.resolution} pixels per inch; {report.changed:,} samples "
+            f"changed at {report.edges:,} edges.</p>")
+    legend = " ".join(f"{swatch(light)}{long(readable(ink.colorant))}"
+                      for ink, light in zip(page.inks, sheet.painter.lights) if report.plates.get(ink.name))
+    columns = ["zone", "samples", "changed"]
+    zones = table(columns, ([zone[name] for name in columns] for zone in report.zones))
+    inks = table(["ink", "in the job", "density", "kind", "plate", "samples changed", "ink added on"],
+                 ink_rows(sheet, report))
+    return "\n".join([
+        f'<section class="page" id="page-{page.source.page}" data-changed="{report.changed}">', head,
+        warnings_text(page.path), "<h3>Before and after</h3>", slider_text(before, after), register_text(sheet),
+        f"<h3>Traps</h3><p>Where ink was added, thickened, in its colour: {legend or 'nowhere'}</p>",
+        image(traps, "the traps"), map_text(sheet, bare), plates_text(sheet), "<h3>Inks</h3>", inks, "<h3>Zones</h3>",
+        zones, f"<h3>The job</h3><pre>{escaped(read_text(page.file(JOB)))}</pre>", "</section>"])
+
+
+def add_to_json(sheet: Sheet) -> None:
+    """Adds to report.json how many samples misregistration bares."""
+    path = sheet.page.file(TRAPPED, JSON)
+    text = json.loads(read_text(path) or "{}")
+    text["misregister"] = {"radius": sheet.radius, "bared_before": int(sheet.bared_before.sum()),
+                           "bared_after": int(sheet.bared_after.sum())}
+    write_text(path, json.dumps(text, indent=1) + "\n")
+
+
+def warnings_text(folder: str) -> str:
+    """What was warned of."""
+    items = "".join(f'<li class="{escaped(line.partition(":")[0])}">{escaped(line)}</li>'
+                    for line in read_text(folder, WARNINGS).splitlines() if line)
+    return f"<h3>Warnings and notes</h3><ul>{items}</ul>" if items else ""
+
+
+def slider_text(before: Array, after: Array) -> str:
+    """The page before and after, with a slider between them."""
+    return (f'<div class="slider"><div class="pair"><img src="{data_uri(before, "JPEG")}" alt="before">'
+            f'<img class="after" src="{data_uri(after, "JPEG")}" alt="after"><div class="line"></div></div><div><input '
+            f'class="wide" type="range" min="0" max="100" value="50" aria-label="before and after"></div></div>'
+            f"<p>Left of the line the page before trapping, right of it after. This small a trap is hardly seen: see "
+            f"below.</p>")
+
+
+def register_text(sheet: Sheet) -> str:
+    """The parts with their sliders, and what the script draws them from."""
+    page, parts = sheet.page, sheet.details()
+    most, wide = int(sheet.width), max(LEAST_SHIFT, 3 * int(sheet.width))
+    names = "".join(f'<option value="{at}">{escaped(readable(ink.colorant))} alone</option>'
+                    for at, ink in enumerate(page.inks))
+    # A plate that is moved bares what lies beside the part, and no border of it.
+    data = {"lights": sheet.painter.lights, "margin": wide, "parts": [sheet.plate_parts(part, wide) for part in parts]}
+    figures = "".join(f"<figure>{canvas(one)} {canvas(one)}<figcaption>{one[2]} by {one[3]} samples at {one[0]},"
+                      f"{one[1]}: before on the left, after on the right</figcaption></figure>" for one in parts)
+    closed = (f"The narrowest traps here are {sheet.width:.2f} samples wide: so much is what they close."
+              if sheet.width else "No zone has a trap of a sample or more.")
+    sliders = " ".join(f'<label>{name} <input class="{name}" type="range" min="{-wide}" max="{wide}" value="{value}">'
+                       f"</label>" for name, value in (("across", most), ("down", 0)))
+    return (f'<h3>Out of register</h3><p>{closed}</p><p class="controls"><label>Off: <select><option value="each">each '
+            f'plate its own way</option>{names}</select></label> {sliders} <output></output></p><div class="details">'
+            f'{figures or "<p>Nothing was trapped.</p>"}</div><script type="application/json">{json.dumps(data)}'
+            f"</script>")
+
+
+def canvas(part: Part) -> str:
+    """Where the script draws a part."""
+    return f'<canvas width="{part[2]}" height="{part[3]}"></canvas>'
+
+
+def map_text(sheet: Sheet, picture: Array) -> str:
+    """The map of what misregistration still bares."""
+    before, after = (int(where.sum()) for where in (sheet.bared_before, sheet.bared_after))
+    radius = f"{sheet.radius} sample" + ("" if sheet.radius == 1 else "s")
+    # Two plates that are off each its own way part by twice as much.
+    far = (f" That is more than traps of {sheet.width:.2f} samples close everywhere."
+           if 0 < sheet.width < 2 * sheet.radius else "")
+    return (f"<h3>What misregister still bares</h3><p>{swatch(RED)}a light seam can open here, each plate being off by "
+            f"{radius} in both directions: {after:,} samples after trapping, {before:,} before. {swatch(BLUE)}closed "
+            f'by a trap.{far}</p>{image(picture, "a map of what misregister bares")}')
+
+
+def plates_text(sheet: Sheet) -> str:
+    """Each trapped plate, small."""
+    small = functools.partial(mean_of, times=max(1, -(-sheet.page.head.width // PLATE_WIDTH)))
+    figures = "".join(f'<figure><img src="{data_uri(small(plane))}" alt=""><figcaption>'
+                      f"{escaped(readable(ink.colorant))}</figcaption></figure>"
+                      for ink, plane in zip(sheet.page.inks, sheet.painter.after))
+    return f'<h3>Plates</h3><div class="plates">{figures}</div>'
+
+
+def ink_rows(sheet: Sheet, report: Report) -> Iterator[Sequence[str | int]]:
+    """The rows of the table of inks."""
+    painter, square = sheet.painter, (25.4 / sheet.page.source.resolution) ** 2
+    for ink, light, old, new in zip(sheet.page.inks, painter.lights, painter.before, painter.after):
+        added = f"{int((new < old).sum()) * square:.2f}\u00a0mm²"
+        yield (swatch(light) + long(readable(ink.colorant)), long(ink.name), ink.density, ink.kind,
+               "ink" if ink.has_ink else "blank", report.plates.get(ink.name, 0), added)

@@ -1,0 +1,341 @@
+# SPDX-License-Identifier: Apache-2.0
+"""One run: the pages of a file from PDF to proof, each in a process of its own, so that a page that crashes
+ends alone."""
+import contextlib
+import multiprocessing
+import multiprocessing.connection
+import os
+import signal
+import tempfile
+import time
+import traceback
+from collections.abc import Iterator, Sequence
+from dataclasses import dataclass
+from multiprocessing.connection import Connection
+
+from . import engine, look, page as pages_of_source, preflight, proof, tiff, tools
+from .errors import PressError, Status, reason
+from .events import (Event, FindingMade, Observer, PageDone, PageFailed, RunDone, RunStarted, StepDone, StepStarted,
+                     Warned, silent)
+from .files import LOCK, disk_use, folder_beside, free_room, head_of, locked, sweep
+from .findings import Finding, refusal_for
+from .folder import TIFF, TRAPPED, WARNINGS, JobFolder, PageFolder, read_table
+from .inks import InkBook, open_book
+from .names import PROCESS, clean
+from .settings import Settings
+from .source import Source, open_source
+
+HELD = "PRESS_HELD"
+
+
+@dataclass(frozen=True)
+class RunResult:
+    """What came of a run: of each page whether it is done or failed, and what preflight found."""
+
+    pages: dict[int, PageDone | PageFailed]
+    findings: tuple[Finding, ...]
+
+    @property
+    def failed(self) -> tuple[int, ...]:
+        """The pages that failed."""
+        return tuple(page for page, end in self.pages.items() if isinstance(end, PageFailed))
+
+    @property
+    def status(self) -> Status:
+        """The status of a command that made this run."""
+        return Status.PAGES_FAILED if self.failed else Status.DONE
+
+
+@contextlib.contextmanager
+def page_locks(job: JobFolder, pages: Sequence[int]) -> Iterator[None]:
+    """Holds the folder for this run alone. Runs of single pages, as those of a cluster, may work in it beside
+    each other, each page belonging to one run; press/farm holds the folder for the runs that it starts."""
+    with contextlib.ExitStack() as stack:
+        if os.environ.get(HELD) != os.path.realpath(job.path):
+            stack.enter_context(locked(os.path.join(job.path, LOCK), job.path, "press-all", shared=bool(pages)))
+        for page in pages:
+            place = os.path.join(job.path, f"{LOCK}-{page:03d}")
+            stack.enter_context(locked(place, f"{job.path}: page {page}", "press-all"))
+        sweep(job.path)
+        yield
+
+
+def is_one_of_many() -> bool:
+    """Whether this run is one page's of a farm or of a cluster's array: the proof sheet is made after them."""
+    return "SLURM_ARRAY_TASK_ID" in os.environ or bool(os.environ.get(HELD))
+
+
+# A page
+
+class StepFailed(Exception):
+    """A step of a page failed: its command, and the refusal."""
+
+    def __init__(self, command: str, refusal: PressError) -> None:
+        super().__init__(command, refusal)
+        self.command, self.refusal = command, refusal
+
+
+@dataclass
+class PageWork:
+    """The work on one page of a run."""
+
+    source: Source
+    settings: Settings
+    book: InkBook
+    job: JobFolder
+    found: list[Finding]
+    number: int
+    observer: Observer
+
+    @contextlib.contextmanager
+    def step(self, what: str, command: str) -> Iterator[None]:
+        """A step of the page: its beginning and its end are events, and a failure names its command."""
+        self.observer(StepStarted(self.number, what))
+        start = time.monotonic()
+        try:
+            yield
+        except PressError as refusal:
+            raise StepFailed(command, refusal) from refusal
+        except OSError as fault:
+            place = os.fsdecode(fault.filename) if isinstance(fault.filename, (str, bytes)) else "write"
+            raise StepFailed(command, PressError(Status.OUTPUT, reason(fault), place)) from fault
+        self.observer(StepDone(self.number, what, time.monotonic() - start))
+
+    def refuse(self) -> None:
+        """Refuses the page where its findings call for that."""
+        own = [one for one in self.found if one.page == self.number]
+        refusal = refusal_for(self.source.path, own, self.settings.strict)
+        if refusal:
+            raise refusal
+
+    def need_room(self) -> None:
+        """Refuses a page whose plates alone take more of the disk than there is, before they are made."""
+        info = self.source.page(self.number)
+        if info:
+            width, height = info.samples(self.settings.box, self.settings.dpi)
+            need, free = width * height * (len(PROCESS) + len(info.spots)), free_room(self.job.path)
+            if need > free:
+                raise PressError(Status.OUTPUT, pages_of_source.room_line(need, free), self.source.place(self.number))
+
+    def look(self, scratch: str) -> pages_of_source.Page:
+        """Renders the page, and checks it."""
+        self.refuse()
+        self.need_room()
+        page = pages_of_source.prepare(self.source, self.number, self.settings, self.book, scratch)
+        for one in preflight.check_page(page, self.settings, self.book, self.job.path).findings:
+            self.found.append(one)
+            self.observer(FindingMade(one))
+        self.refuse()
+        return page
+
+    def make(self, folder: str) -> engine.Report:
+        """Goes the whole way into a folder: plates, traps, TIFF files, pictures and proof."""
+        scratch = os.path.join(os.path.dirname(folder), "scratch")
+        with self.step("a look", "press-check"):
+            os.mkdir(scratch)
+            page = self.look(scratch)
+        with self.step("plates", "press-plates"):
+            os.mkdir(folder)
+            made = pages_of_source.write_page(page, self.settings, folder)
+            self.write_warnings(made)
+        del page
+        with self.step("traps", "press-trap"):
+            trapped = engine.trap(made, self.settings)
+            self.warn("press-trap", trapped.warnings)
+        with self.step("TIFF files", "press-tiff"):
+            options = tiff.TiffOptions(channels=self.settings.channels, icc=self.settings.icc)
+            tiff.write_tiffs(made, made.file(TIFF), options)
+        if self.settings.look:
+            with self.step("pictures", "press-look"):
+                look.draw_pictures(made)
+        if self.settings.proof:
+            self.make_part(made)
+        return trapped.report
+
+    def make_part(self, made: PageFolder) -> None:
+        """What the page gives to the proof sheet. If it cannot be drawn, of a page that is too large for this
+        machine say, the plates stand."""
+        try:
+            with self.step("proof", "press-proof"):
+                proof.write_part(made.path)
+        except StepFailed as failed:
+            why = f"{failed.command}: {failed.refusal}"
+            self.warn("press-all", [f"{self.source.place(self.number)}: no proof is drawn: {why}"])
+
+    def warn(self, command: str, texts: Sequence[str]) -> None:
+        """Warnings of a step."""
+        for text in texts:
+            self.observer(Warned(self.number, command, text))
+
+    def write_warnings(self, made: PageFolder) -> None:
+        """Keeps the findings that concern the page in its folder."""
+        lines = [clean(f"{one.level}: {one.kind}: {one.text}") + "\n" for one in self.found
+                 if one.page in (self.number, None)]
+        with open(made.file(WARNINGS), "w", encoding="utf-8", errors="surrogateescape") as file:
+            file.writelines(lines)
+
+    def do(self) -> PageDone | PageFailed:
+        """Does the page: its folder stands in OUT whole, or what was made of it under another name, with the
+        line that says why."""
+        start, final = time.monotonic(), self.job.page(self.number)
+        with folder_beside(self.job.path, inside=True) as made:
+            folder = os.path.join(made, "page")
+            try:
+                try:
+                    self.job.remove_old(self.number)
+                except PressError as refusal:
+                    raise StepFailed("press-all", refusal) from refusal
+                report = self.make(folder)
+            except StepFailed as failed:
+                why = f"{failed.command}: {failed.refusal}".replace(folder, self.job.failed(self.number))
+                self.job.keep_failed(self.number, folder, why)
+                return PageFailed(self.number, failed.refusal.status, why)
+            if self.settings.tiff_only:
+                drop_plates(folder)
+            plates, disk = len(read_table(folder)[1]), disk_use(folder)
+            os.rename(folder, final)
+        return PageDone(self.number, plates, report.changed, time.monotonic() - start, disk)
+
+
+def drop_plates(folder: str) -> None:
+    """Leaves of a page what is no plate."""
+    for place in (folder, os.path.join(folder, TRAPPED)):
+        for file in os.listdir(place):
+            if file.endswith(".pgm"):
+                os.remove(os.path.join(place, file))
+
+
+# Workers
+
+def work(todo: PageWork, end: Connection, parent: int) -> None:
+    """Does a page in a process of its own, and sends the events to the run."""
+    tools.die_with(parent)
+    todo.observer = end.send
+    try:
+        end.send(todo.do())
+    except MemoryError:
+        end.send(PageFailed(todo.number, Status.OUTPUT, "press-all: there is not enough memory"))
+    except Exception as fault:  # pylint: disable=broad-exception-caught
+        traceback.print_exc()
+        end.send(PageFailed(todo.number, Status.PROGRAM, f"press-all: {type(fault).__name__}: {fault}"))
+
+
+def lost_line(code: int | None) -> str:
+    """Why a process ended without a word."""
+    if code is not None and code < 0:
+        short = ": was there not enough memory?" if -code == signal.SIGKILL else ""
+        return f"press-all: the page's process was ended by {signal.Signals(-code).name}{short}"
+    return f"press-all: the page's process ended with {code}"
+
+
+class Workers:
+    """The processes of pages that are at work, so many at once."""
+
+    def __init__(self, observer: Observer) -> None:
+        self.observer = observer
+        self.context = multiprocessing.get_context("fork")
+        self.active: dict[Connection, tuple[int, multiprocessing.process.BaseProcess]] = {}
+        self.ends: dict[int, PageDone | PageFailed] = {}
+
+    def start(self, todo: PageWork) -> None:
+        """Starts a page."""
+        ours, theirs = self.context.Pipe(duplex=False)
+        process = self.context.Process(target=work, args=(todo, theirs, os.getpid()))
+        process.start()
+        theirs.close()
+        self.active[ours] = todo.number, process
+
+    def hear(self) -> None:
+        """Waits for an event of a page, and hands it on."""
+        for ready in multiprocessing.connection.wait(list(self.active)):
+            assert isinstance(ready, Connection)
+            number, process = self.active[ready]
+            try:
+                event: Event = ready.recv()
+            except EOFError:
+                del self.active[ready]
+                process.join()
+                if number in self.ends:
+                    continue
+                event = PageFailed(number, Status.OUTPUT, lost_line(process.exitcode))
+            if isinstance(event, (PageDone, PageFailed)):
+                self.ends[number] = event
+            self.observer(event)
+
+    def stop(self) -> None:
+        """Stops what is still at work, and waits until it has cleared away what it made."""
+        for _, process in self.active.values():
+            process.terminate()
+        for _, process in self.active.values():
+            process.join()
+
+
+def do_pages(todo: Sequence[PageWork], jobs: int, observer: Observer) -> dict[int, PageDone | PageFailed]:
+    """Does pages, so many at once. Answers how each ended, in their order."""
+    workers, waiting = Workers(observer), list(todo)
+    try:
+        while waiting or workers.active:
+            while waiting and len(workers.active) < jobs:
+                workers.start(waiting.pop(0))
+            workers.hear()
+    finally:
+        workers.stop()
+    for one in todo:
+        keep_lost(one, workers.ends[one.number])
+    return {one.number: workers.ends[one.number] for one in todo}
+
+
+def keep_lost(todo: PageWork, end: PageDone | PageFailed) -> None:
+    """Leaves the line that says why for a page whose process could not."""
+    if isinstance(end, PageFailed) and not os.path.lexists(todo.job.failed(todo.number)):
+        sweep(todo.job.path)
+        with folder_beside(todo.job.path, inside=True) as made:
+            todo.job.keep_failed(todo.number, os.path.join(made, "page"), end.why)
+
+
+# The run
+
+def check_file(source: Source, settings: Settings, book: InkBook, pages: Sequence[int],
+               observer: Observer) -> list[Finding]:
+    """Checks a file before any page is rendered. Refuses a fault of the whole file."""
+    found = preflight.check_file(source, settings, book, pages)
+    for one in found:
+        observer(FindingMade(one))
+    refusal = refusal_for(source.path, [one for one in found if one.page is None], settings.strict)
+    if refusal:
+        raise refusal
+    return found
+
+
+def run(path: str, out: str, settings: Settings = Settings(), pages: Sequence[int] = (),
+        observer: Observer = silent) -> RunResult:
+    """Goes the whole way for the pages of a file, all or those that are asked for, counted from 1. Each page
+    that is done stands in OUT/page-001 and so on. Refuses a file that cannot be read; a page that fails is in
+    the result."""
+    head_of(path)
+    tools.program("trap")
+    with tempfile.TemporaryDirectory(prefix="press-") as scratch:
+        source = open_source(path, scratch, settings.time)
+        numbers = list(pages) or list(range(1, source.count + 1))
+        observer(RunStarted(path, tuple(numbers), source.count, source.converted))
+        book = open_book(settings, path)
+        found = check_file(source, settings, book, numbers, observer)
+        job = JobFolder(out)
+        job.make()
+        with page_locks(job, pages):
+            todo = [PageWork(source, settings, book, job, list(found), number, silent) for number in numbers]
+            ends = do_pages(todo, settings.jobs, observer)
+            if settings.proof and not is_one_of_many():
+                make_sheet(out, observer)
+    result = RunResult(ends, tuple(found))
+    observer(RunDone(result.failed))
+    return result
+
+
+def make_sheet(out: str, observer: Observer) -> None:
+    """The proof sheet of all pages. If it fails the pages stand."""
+    observer(StepStarted(None, "proof sheet"))
+    try:
+        proof.write_sheet_of_all(out)
+    except PressError as refusal:
+        observer(Warned(None, "press-all", f"{out}: no proof sheet: press-proof: {refusal}"))
