@@ -5,7 +5,8 @@
 #   make check               the quick tests of everything (./test)
 #   make install             programs, library, press commands, manual pages, and completion for bash
 #   make uninstall           removes them
-#   make deb                 Debian packages, in out/
+#   make deb                 Debian packages, in out/deb/ (needs debhelper and dh-python)
+#   make wheel               the Python package with the library inside, and its source archive, in out/wheel/
 #   make dist                the sources and the release, in out/
 #   make lint                manual pages, generated text, spelling and scripts, by the tools that are installed
 #   make clean               removes what was made, except proofs and programs in crates/
@@ -51,7 +52,7 @@ OWN := $(libexecdir)/trap
 PRESS := $(OWN)/press
 
 .PHONY: all programs library check install install-programs install-press install-library install-headers install-manuals \
-  uninstall deb dist lint clean distclean
+  uninstall deb wheel dist lint clean distclean
 
 all: programs library
 
@@ -132,19 +133,12 @@ clean:
 distclean: clean
 	rm -rf crates/*/out
 
-DEB_PLACES = prefix=/usr libexecdir=/usr/lib libdir=/usr/lib/$(shell $(CC) -print-multiarch)
-
+# In a copy of the sources: the working folder is not changed.
 deb: all
-	rm -rf out/deb out/deb-dev
-	$(MAKE) --no-print-directory install-programs install-press install-library install-manuals DESTDIR=$(CURDIR)/out/deb $(DEB_PLACES)
-	tools/deb-control out/deb $(PROGRAMS)
-	dpkg-deb --build --root-owner-group out/deb out
-	$(MAKE) --no-print-directory install-headers DESTDIR=$(CURDIR)/out/deb-dev $(DEB_PLACES)
-	install -d out/deb-dev/usr/share/doc/libtrap-dev/examples
-	install -m 644 docs/LIBRARY.md out/deb-dev/usr/share/doc/libtrap-dev
-	install -m 644 examples/library/page.c examples/library/bands.c examples/library/rip.c examples/library/plates.h \
-	  out/deb-dev/usr/share/doc/libtrap-dev/examples
-	tools/deb-control --dev out/deb-dev && dpkg-deb --build --root-owner-group out/deb-dev out
+	tools/packages deb
+
+wheel: library
+	tools/packages wheel
 
 lint:
 	tools/lint
