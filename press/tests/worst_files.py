@@ -1,4 +1,5 @@
 #!/usr/bin/env python3
+# SPDX-License-Identifier: Apache-2.0
 """Makes files like the worst that a shop is sent: worst_files.py FOLDER. Large formats, many and odd spots, overprints, transparency,
 photographs, turned pages, wrong boxes, missing fonts, broken PDFs, PostScript of several kinds, and tables as spreadsheets save
 them. It tells of each its name, what press/all ends with, the words that it is given, and what is bad about it, with tabs between.
@@ -409,29 +410,34 @@ BESIDE = {
 
 
 def encrypted(folder):
-    """A PDF with a password, by Ghostscript."""
+    """PDFs with a password, by Ghostscript: of each the name, the status and what is bad."""
     with open(os.path.join(folder, "plain.tmp"), "wb") as out:
         out.write(plain())
     for name, user, status in (("password.pdf", "secret", 5), ("owner-password.pdf", "", 0)):
         subprocess.run(["gs", "-q", "-dBATCH", "-dNOPAUSE", "-sDEVICE=pdfwrite", "-dCompatibilityLevel=1.4", "-sOwnerPassword=owner",
                         f"-sUserPassword={user}", f"-sOutputFile={os.path.join(folder, name)}", os.path.join(folder, "plain.tmp")], check=True)
-        print(name, status, f"a PDF with a password {'of the reader' if user else 'of the owner alone'}", sep="\t")
+        yield name, status, f"a PDF with a password {'of the reader' if user else 'of the owner alone'}"
     os.remove(os.path.join(folder, "plain.tmp"))
 
 
-def main():
-    folder = sys.argv[1]
-    os.makedirs(folder, exist_ok=True)
+def write_files(folder):
+    """Writes all files into a folder. Yields of each its name, the status of press/all, and what is bad about it."""
     for name, (make, status, what) in FILES.items():
         with open(os.path.join(folder, name), "wb") as out:
             out.write(make())
-        print(name, status, what, sep="\t")
+        yield name, status, what
     for stem, (end, data, status, what) in BESIDE.items():
         for path, text in ((stem + ".pdf", label()), (stem + end, data)):
             with open(os.path.join(folder, path), "wb") as out:
                 out.write(text)
-        print(stem + ".pdf", status, what, sep="\t")
-    encrypted(folder)
+        yield stem + ".pdf", status, what
+    yield from encrypted(folder)
+
+
+def main():
+    os.makedirs(sys.argv[1], exist_ok=True)
+    for name, status, what in write_files(sys.argv[1]):
+        print(name, status, what, sep="\t")
 
 
 if __name__ == "__main__":

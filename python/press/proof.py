@@ -213,9 +213,9 @@ def page_text(page: PageFolder) -> str:
     return "\n".join([
         f'<section class="page" id="page-{page.source.page}" data-changed="{report.changed}">', head,
         warnings_text(page.path), "<h3>Before and after</h3>", slider_text(before, after), register_text(sheet),
-        f"<h3>Traps</h3><p>Where ink was added, thickened, in its colour: {legend or 'nowhere'}</p>",
-        image(traps, "the traps"), map_text(sheet, bare), plates_text(sheet), "<h3>Inks</h3>", inks, "<h3>Zones</h3>",
-        zones, f"<h3>The job</h3><pre>{escaped(read_text(page.file(JOB)))}</pre>", "</section>"])
+        f"<h3>Traps</h3><p>Where ink was added, thickened, in its colour: {legend or 'nowhere'}</p>"
+        f"{image(traps, 'the traps')}", map_text(sheet, bare), plates_text(sheet), "<h3>Inks</h3>", inks,
+        "<h3>Zones</h3>", zones, f"<h3>The job</h3><pre>{escaped(read_text(page.file(JOB)))}</pre>", "</section>"])
 
 
 def add_to_json(sheet: Sheet) -> None:

@@ -25,7 +25,7 @@ MAXVALS = (255, 65_535)
 CENTIMETRE = 3
 WHITE_IS_ZERO, BLACK_IS_ZERO = 0, 1
 Tag = tuple[int, Any, int | None, Any, bool]
-ORIENTATION, PAGE_NAME, PAGE_NUMBER, INK_SET, INK_NAMES, NUMBER_OF_INKS = 274, 285, 297, 332, 333, 334
+ORIENTATION, CHANNELS, PAGE_NAME, PAGE_NUMBER, INK_SET, INK_NAMES, NUMBER_OF_INKS = 274, 277, 285, 297, 332, 333, 334
 CMYK_INKS, UPRIGHT = 1, 1
 # Plates are large, and come from the shop's own RIPs.
 Image.MAX_IMAGE_PIXELS = None
@@ -73,7 +73,8 @@ def write_separation(path: bytes, array: Array, resolution: int) -> None:
     height, width = array.shape
     mode = "L" if array.dtype.itemsize == 1 else "I;16B"
     image = Image.frombuffer(mode, (width, height), array, "raw", mode, 0, 1)
-    image.save(os.fsdecode(path), format="TIFF", compression="tiff_lzw", dpi=(resolution, resolution))
+    image.save(os.fsdecode(path), format="TIFF", compression="tiff_lzw", dpi=(resolution, resolution),
+               tiffinfo={CHANNELS: 1})
 
 
 # The file of all inks

@@ -1,0 +1,242 @@
+#!/usr/bin/env python3
+# SPDX-License-Identifier: Apache-2.0
+"""Compares what the press commands of two commits make of the same files: compare_commits.py ONE TWO [OPTION ...]
+
+Runs press/check and press/all of both commits on the files of examples/, of press/tests/inputs, on the small files of the
+tests and on the hostile ones, and compares statuses, printed lines, and each file of the page folders: plates, jobs, tables,
+reports and texts byte for byte, TIFF files by their samples and tags, pictures within one level. What differs is printed, and
+the status is 1 then. Times and sizes on the disk in printed lines are left aside, and so is how a TIFF file is laid out.
+
+  --dpi N       the resolution, 72 where it is left out
+  --only TEXT   the files alone whose names have this text in them; it may be given several times
+  --small, --hostile, --inputs   these files alone; all where none of these options is given
+  --keep DIR    keeps in DIR what the commits made
+"""
+import argparse
+import base64
+import io
+import os
+import re
+import shutil
+import subprocess
+import sys
+import tempfile
+from collections.abc import Iterator
+from concurrent.futures import ThreadPoolExecutor
+from pathlib import Path
+
+sys.dont_write_bytecode = True
+HERE = Path(__file__).resolve().parent
+TOP = HERE.parents[1]
+sys.path.insert(0, str(HERE))
+import numpy  # noqa: E402
+from PIL import Image  # noqa: E402
+from readers import tiff_tags  # noqa: E402
+import small_pdf  # noqa: E402
+import worst_files  # noqa: E402
+
+Image.MAX_IMAGE_PIXELS = None
+JOBS, LONGEST = 2, 1800
+# Tags that say how a file is laid out; and texts that another writer of TIFF files put of itself.
+LAYOUT = {254, 266, 269, 273, 278, 279, 305}
+OTHER_WRITER = {270: b"converted PNM file"}
+DEFAULTS = {277: [1], 284: [1]}
+PICTURE = re.compile(r"data:image/(?:png|jpeg);base64,([A-Za-z0-9+/=]+)")
+# What two runs never have in common: seconds, bytes on the disk, and a process's number.
+CHANGING = ((re.compile(r", \d+\.\d s, [\d.]+ [MG]B of disk"), ", SECONDS, SIZE"), (re.compile(r"process \d+"), "process N"))
+
+
+def tags_of(path: Path) -> list[dict[int, object]]:
+    """The tags of each page of a TIFF file that say something of its samples."""
+    names = {tag: str(tag) for tag in range(254, 400) if tag not in LAYOUT}
+    pages = []
+    for page in tiff_tags(path, names):
+        tags: dict[int, object] = {**DEFAULTS, **{int(name): value for name, value in page.items()}}
+        pages.append({tag: value for tag, value in tags.items()
+                      if not (tag in OTHER_WRITER and OTHER_WRITER[tag] in bytes(str(value), "utf-8"))})
+    return pages
+
+
+def samples_of(path: Path) -> list[numpy.ndarray]:
+    """The samples of each page of a TIFF file."""
+    with Image.open(path) as image:
+        pages = []
+        for page in range(getattr(image, "n_frames", 1)):
+            image.seek(page)
+            pages.append(numpy.asarray(image).copy())
+        return pages
+
+
+def tiffs_differ(one: Path, two: Path) -> str | None:
+    """How two TIFF files differ, or None. A file that Pillow has no mode for is compared byte for byte."""
+    first, second = tags_of(one), tags_of(two)
+    if first != second:
+        return f"tags {first} and {second}"
+    try:
+        pairs = list(zip(samples_of(one), samples_of(two), strict=True))
+    except (OSError, SyntaxError):
+        return None if one.read_bytes() == two.read_bytes() else "bytes, of channels that are not read here"
+    return None if all(numpy.array_equal(a, b) for a, b in pairs) else "samples"
+
+
+def pictures_differ(one: bytes, two: bytes) -> str | None:
+    """How two pictures differ by more than one level, or None."""
+    first, second = (numpy.asarray(Image.open(io.BytesIO(data))).astype("i2") for data in (one, two))
+    if first.shape != second.shape:
+        return f"sizes {first.shape} and {second.shape}"
+    most = int(abs(first - second).max(initial=0))
+    return f"pictures by {most} levels" if most > 1 else None
+
+
+def text_of(text: str) -> str:
+    """A text without what two runs never have in common."""
+    for pattern, instead in CHANGING:
+        text = pattern.sub(instead, text)
+    return text
+
+
+def sheets_differ(one: str, two: str) -> str | None:
+    """How two proof sheets differ, or None: their texts, and their pictures by more than one level."""
+    if PICTURE.sub("PICTURE", one) != PICTURE.sub("PICTURE", two):
+        return "text"
+    for first, second in zip(PICTURE.findall(one), PICTURE.findall(two), strict=True):
+        found = None if first == second else pictures_differ(base64.b64decode(first), base64.b64decode(second))
+        if found:
+            return found
+    return None
+
+
+def files_differ(one: Path, two: Path) -> str | None:
+    """How two files of page folders differ, or None."""
+    if one.suffix == ".tif":
+        return tiffs_differ(one, two)
+    if one.suffix == ".png":
+        return pictures_differ(one.read_bytes(), two.read_bytes())
+    if one.suffix == ".html" or one.name == "proof.part":
+        return sheets_differ(one.read_text(), two.read_text())
+    if one.suffix == ".pgm":
+        return None if one.read_bytes() == two.read_bytes() else "bytes"
+    texts = [text_of(path.read_text(errors="surrogateescape")) for path in (one, two)]
+    return None if texts[0] == texts[1] else "text"
+
+
+def folders_differ(one: Path, two: Path) -> Iterator[str]:
+    """How what two runs made differs."""
+    first, second = ({str(path.relative_to(place)) for path in place.rglob("*") if path.is_file()} for place in (one, two))
+    for name in sorted(first ^ second):
+        yield f"{name}: only {'the first' if name in first else 'the second'} commit has it"
+    for name in sorted(first & second):
+        found = files_differ(one / name, two / name)
+        if found:
+            yield f"{name}: {found}"
+
+
+def lines_differ(what: str, one: str, two: str) -> Iterator[str]:
+    """The lines that one of two printed texts has and the other has not. Pages may end in another order."""
+    first, second = sorted(text_of(one).splitlines()), sorted(text_of(two).splitlines())
+    if first != second:
+        yield from (f"{what}: only the first prints: {line}" for line in first if line not in second)
+        yield from (f"{what}: only the second prints: {line}" for line in second if line not in first)
+
+
+class Commit:
+    """A commit's commands, in a work tree of their own, and what they make."""
+
+    def __init__(self, name: str, place: Path) -> None:
+        self.tree, self.out = place / "tree", place / "out"
+        subprocess.run(["git", "-C", TOP, "worktree", "add", "--quiet", "--detach", self.tree, name], check=True)
+        self.out.mkdir()
+
+    def remove(self) -> None:
+        """Takes the work tree away."""
+        subprocess.run(["git", "-C", TOP, "worktree", "remove", "--force", self.tree], check=True)
+
+    def run(self, command: str, inputs: Path, words: list[str]) -> subprocess.CompletedProcess[str]:
+        """Runs a command in the folder of inputs."""
+        foreign = ("GS_OPTIONS", "PRESS_HELD", "PRESS_PYTHON", "SLURM_ARRAY_TASK_ID", "PYTHONPATH")
+        environment = {name: value for name, value in os.environ.items() if name not in foreign}
+        environment.update(TRAP_BIN=str(programs()), PRESS_HOUSE="/nonexistent", LC_ALL="C.UTF-8")
+        return subprocess.run([self.tree / "press" / command, *words], cwd=inputs, env=environment, stdin=subprocess.DEVNULL,
+                              capture_output=True, encoding="utf-8", errors="surrogateescape", timeout=LONGEST, check=False)
+
+
+def programs() -> Path:
+    """The folder of the trapping programs, the same for both commits."""
+    named = os.environ.get("TRAP_BIN")
+    return Path(named).resolve() if named else TOP / "out" / "release"
+
+
+def compare(name: str, inputs: Path, commits: tuple[Commit, Commit], dpi: str) -> list[str]:
+    """How the commits differ on a file."""
+    found = []
+    for command, options in (("check", ["--dpi", dpi]), ("all", ["--dpi", dpi, "--look"])):
+        ends = []
+        for commit in commits:
+            place = [os.path.relpath(commit.out / name, inputs)] if command == "all" else []
+            ends.append(commit.run(command, inputs, [*options, "--", name, *place]))
+            ends[-1].stdout, ends[-1].stderr = (text.replace(place[0], "OUT") if place else text
+                                                for text in (ends[-1].stdout, ends[-1].stderr))
+        one, two = ends
+        if one.returncode != two.returncode:
+            found.append(f"{command}: status {one.returncode} and {two.returncode}: {one.stderr[-300:]} {two.stderr[-300:]}")
+        found += lines_differ(f"{command}: standard output", one.stdout, two.stdout)
+        found += lines_differ(f"{command}: standard error", one.stderr, two.stderr)
+    return found + list(folders_differ(commits[0].out / name, commits[1].out / name))
+
+
+def write_inputs(folder: Path, options: argparse.Namespace) -> list[str]:
+    """Writes the inputs into a folder. Answers the files to compare."""
+    every = not (options.small or options.hostile or options.inputs)
+    if every or options.inputs:
+        for place in [HERE / "inputs", *(TOP / "examples").iterdir()]:
+            for path in place.iterdir() if place.is_dir() else ():
+                if path.suffix in (".pdf", ".inks", ".zones"):
+                    shutil.copyfile(path, folder / path.name)
+    if every or options.small:
+        small_pdf.write_samples(str(folder))
+        (folder / "huge.pdf").unlink()
+    if every or options.hostile:
+        list(worst_files.write_files(str(folder)))
+    names = [path.name for path in sorted(folder.iterdir()) if path.suffix in (".pdf", ".eps", ".ps", ".ai")]
+    return [name for name in names if not options.only or any(text in name for text in options.only)]
+
+
+def parsed() -> argparse.Namespace:
+    """The arguments."""
+    parser = argparse.ArgumentParser(usage=__doc__, allow_abbrev=False)
+    parser.add_argument("one")
+    parser.add_argument("two")
+    parser.add_argument("--dpi", default="72")
+    parser.add_argument("--only", action="append")
+    parser.add_argument("--keep", type=Path)
+    for name in ("--small", "--hostile", "--inputs"):
+        parser.add_argument(name, action="store_true")
+    return parser.parse_args()
+
+
+def main() -> int:
+    """Compares the commits, and answers 1 where they differ."""
+    options = parsed()
+    different = 0
+    with tempfile.TemporaryDirectory(prefix="compare-") as scratch:
+        place = options.keep.resolve() if options.keep else Path(scratch)
+        for name in ("inputs", "one", "two"):
+            (place / name).mkdir(parents=True)
+        commits = Commit(options.one, place / "one"), Commit(options.two, place / "two")
+        try:
+            names = write_inputs(place / "inputs", options)
+            with ThreadPoolExecutor(JOBS) as pool:
+                for name, found in zip(names, pool.map(lambda name: compare(name, place / "inputs", commits, options.dpi), names)):
+                    print(f"{name}: {'the same' if not found else 'DIFFERENT'}", flush=True)
+                    for line in found:
+                        print(f"    {line}", flush=True)
+                    different += bool(found)
+        finally:
+            for commit in commits:
+                commit.remove()
+    print(f"{len(names)} files, {different} differ")
+    return 1 if different else 0
+
+
+if __name__ == "__main__":
+    sys.exit(main())
