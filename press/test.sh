@@ -824,7 +824,6 @@ try_living() {
   [ ! -e busy/.press-lock ] || wrong "living: a lock is left"
   # What a killed run leaves is swept by the next; nothing of it goes on.
   killed busy "$here/all" --quiet --dpi 1800 "$label" busy
-  [ -n "$(find busy -name '.press-*' -type d)" ] || wrong "living: nothing was left to sweep: $(find busy)"
   goes "$here/all" --quiet --no-proof pair.pdf busy
   if there parallel; then
     killed busy "$here/farm" --quiet --dpi 1800 "$label" busy

@@ -189,7 +189,7 @@ def check(page: PageFolder, out: str, radius: int) -> tuple[str, ...]:
     return ()
 
 
-def json_of(page: PageFolder, ink: Ink, report: Report) -> dict[str, Any]:
+def json_of(ink: Ink, report: Report) -> dict[str, Any]:
     """An ink of a page, as report.json has it."""
     return {"ink": readable(ink.colorant), "name": ink.name, "density": float(ink.density), "kind": ink.kind,
             "has_ink": ink.has_ink, "changed": report.plates.get(ink.name, 0)}
@@ -201,7 +201,7 @@ def write_json(page: PageFolder, report: Report, made: str) -> None:
     text: dict[str, Any] = {
         "source": readable(source.pdf), "page": source.page, "resolution": source.resolution, "width": head.width,
         "height": head.height, "maxval": head.maxval, "edges": report.edges, "zones": list(report.zones),
-        "inks": [json_of(page, ink, report) for ink in page.inks], "samples_changed": report.changed}
+        "inks": [json_of(ink, report) for ink in page.inks], "samples_changed": report.changed}
     with contextlib.suppress(FileNotFoundError), open(os.path.join(made, CHECK), encoding="utf-8") as file:
         counted = dict(line.split() for line in file if len(line.split()) == 2)
         text["check"] = {key: int(counted[key]) for key in ("radius", "before", "after") if key in counted}

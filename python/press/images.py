@@ -82,9 +82,9 @@ def joined(rects: Sequence[Rect]) -> list[Rect]:
             order = sorted((round(one[first], 1), round(one[last_side], 1), one[start], one) for one in left)
             out: list[Rect] = []
             for *_, one in order:
-                last = out[-1] if out else None
-                beside = last and all(abs(last[side] - one[side]) <= TOUCH for side in along)
-                if last and beside and one[start] <= last[across[1]] + TOUCH:
+                last = out[-1] if out else NOTHING
+                beside = all(abs(last[side] - one[side]) <= TOUCH for side in along)
+                if out and beside and one[start] <= last[across[1]] + TOUCH:
                     out[-1] = Rect(min(last.left, one.left), min(last.lower, one.lower), max(last.right, one.right),
                                    max(last.upper, one.upper))
                     changed = True

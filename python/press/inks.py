@@ -152,6 +152,11 @@ def process_meant(name: bytes) -> str | None:
     return {one.lower(): one for one in PROCESS}.get(words[0]) if len(words) == 1 else None
 
 
+def fits(text: str, pattern: str) -> bool:
+    """Whether a text is as a pattern says, which may have wildcards."""
+    return text == pattern or any(char in pattern for char in "*?[") and fnmatch.fnmatchcase(text, pattern)
+
+
 class Shelf:
     """A table of the library: patterns of names, each with a density, a kind and its source's key. The sources
     stand in the comments at its head."""
@@ -167,7 +172,7 @@ class Shelf:
     def whole(self, name: bytes) -> Known | None:
         """What is known of an ink of this name."""
         text = folded(name)
-        return next((known for pattern, known in self.entries if fnmatch.fnmatchcase(text, pattern)), None)
+        return next((known for pattern, known in self.entries if fits(text, pattern)), None)
 
     def within(self, name: bytes) -> Known | None:
         """What is known of a name that has such words in it, one after another. A pattern after = is the whole name."""
@@ -181,7 +186,7 @@ class Shelf:
                 continue
             parts = pattern.split()
             for at in range(len(words) - len(parts) + 1):
-                if all(fnmatch.fnmatchcase(word, part) for word, part in zip(words[at:], parts)):
+                if all(fits(word, part) for word, part in zip(words[at:], parts)):
                     return known
         return None
 

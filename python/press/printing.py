@@ -105,7 +105,7 @@ class FarmLines:
         self.at_work: dict[int, str] = {}
         self.start, self.shown = time.monotonic(), 0.0
         self.warned: set[str] = set()
-        self.bar = not quiet and sys.stderr.isatty()
+        self.has_bar = not quiet and sys.stderr.isatty()
 
     def left(self) -> str:
         """How long the rest will take."""
@@ -126,7 +126,7 @@ class FarmLines:
 
     def draw(self, now: bool = False) -> None:
         """Draws the bar."""
-        if self.bar and (now or time.monotonic() - self.shown > BAR_SECONDS):
+        if self.has_bar and (now or time.monotonic() - self.shown > BAR_SECONDS):
             self.shown = time.monotonic()
             full = BAR_WIDTH * len(self.ended) // max(1, self.total)
             line = f"[{'#' * full}{'.' * (BAR_WIDTH - full)}] {self.text()}"
@@ -136,7 +136,7 @@ class FarmLines:
 
     def erase(self) -> None:
         """Removes the bar."""
-        if self.bar:
+        if self.has_bar:
             sys.stderr.write("\r\033[K")
             sys.stderr.flush()
 
@@ -158,7 +158,7 @@ class FarmLines:
         self.erase()
         print(clean(line), flush=True)
         self.draw(True)
-        if found and not self.quiet and not self.bar:
+        if found and not self.quiet and not self.has_bar:
             complain(clean(f"press-farm: {self.path}: {self.text()}"))
 
     def work(self, line: str) -> None:

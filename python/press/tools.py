@@ -66,7 +66,7 @@ def die_with(parent: int) -> None:
     C_LIBRARY.prctl(SET_PARENT_DEATH_SIGNAL, signal.SIGTERM)
     # No signal comes if the parent has ended already.
     if os.getppid() != parent:
-        os._exit(128 + signal.SIGTERM)
+        os.kill(os.getpid(), signal.SIGKILL)
 
 
 def preparation(before: set[Any], memory: int | None) -> Callable[[], None]:
