@@ -9,6 +9,7 @@ from dataclasses import dataclass
 import tifffile
 
 from .errors import PressError, Status
+from .files import need_room
 from .inks import Look, Separation
 from .names import PROCESS, job_names
 from .plates import Array, Plates
@@ -57,7 +58,12 @@ def render(source: Source, page: int, settings: Settings, folder: str) -> Render
     separations = separations_in(folder, done)
     if separations is None:
         raise PressError(Status.PDF, "Ghostscript made no page of it", source.place(page))
-    arrays = tuple(plane(folder, one) for one in separations)
+    try:
+        arrays = tuple(plane(folder, one) for one in separations)
+    except (tifffile.TiffFileError, ValueError, IndexError, OSError) as fault:
+        # Ghostscript does not notice that a disk is full.
+        need_room(folder, "Ghostscript drew")
+        raise PressError(Status.PDF, "Ghostscript did not write the plates whole", source.place(page)) from fault
     plates = Plates(tuple(one.name for one in separations), arrays, 255, settings.dpi)
     return Rendering(page, tuple(separations), plates, repairs_in(done), fonts_in(done))
 
