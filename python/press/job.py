@@ -101,11 +101,11 @@ def comment_of(name: str, values: Mapping[str, Value], dpi: int) -> str:
 
 def parameter_statement(settings: Settings) -> list[Statement]:
     """The statement that sets the parameters of options and presets, if there are any."""
-    if not settings.parameters:
+    if not any(PARAMETERS[name].key for name in settings.parameters):
         return []
     lines = ["% Trapping parameters that were told by words:", "<<"]
     for name, parameter in PARAMETERS.items():
-        if name in settings.parameters:
+        if parameter.key and name in settings.parameters:
             value = settings.parameters[name]
             entry = f"/{parameter.key} {decimal(value.number)}"
             comment = comment_of(name, settings.parameters, settings.dpi)

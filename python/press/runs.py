@@ -30,7 +30,8 @@ HELD = "PRESS_HELD"
 
 @dataclass(frozen=True)
 class RunResult:
-    """What came of a run: of each page whether it is done or failed, and what preflight found."""
+    """What came of a run: of each page whether it is done or failed, and what preflight found in the file and its
+    pages."""
 
     pages: dict[int, PageDone | PageFailed]
     findings: tuple[Finding, ...]
@@ -317,17 +318,24 @@ def run(path: str, out: str, settings: Settings = Settings(), pages: Sequence[in
     with tempfile.TemporaryDirectory(prefix="press-") as scratch:
         source = open_source(path, scratch, settings.time)
         numbers = list(pages) or list(range(1, source.count + 1))
-        observer(RunStarted(path, tuple(numbers), source.count, source.converted))
+        findings: list[Finding] = []
+
+        def tell(event: Event) -> None:
+            if isinstance(event, FindingMade):
+                findings.append(event.finding)
+            observer(event)
+
+        tell(RunStarted(path, tuple(numbers), source.count, source.converted))
         book = open_book(settings, path)
-        found = check_file(source, settings, book, numbers, observer)
+        found = check_file(source, settings, book, numbers, tell)
         job = JobFolder(out)
         job.make()
         with page_locks(job, pages):
             todo = [PageWork(source, settings, book, job, list(found), number, silent) for number in numbers]
-            ends = do_pages(todo, settings.jobs, observer)
+            ends = do_pages(todo, settings.jobs, tell)
             if settings.proof and not is_one_of_many():
                 make_sheet(out, observer)
-    result = RunResult(ends, tuple(found))
+    result = RunResult(ends, tuple(findings))
     observer(RunDone(result.failed))
     return result
 

@@ -83,7 +83,8 @@ class Value:
 
 @dataclass(frozen=True)
 class Parameter:
-    """A trapping parameter: its key in the job, how its text is read, and the comment beside it in the job."""
+    """What options and presets may set: its key in the job, which is empty for a value that the job does not have, how
+    its text is read, and the comment beside it in the job."""
 
     key: str
     read: Callable[[str, str], float]
