@@ -1,0 +1,3 @@
+pub mod Keepaway
+pub mod Laws
+pub mod Rows

@@ -1,0 +1,14 @@
+//! Keepaway: the inks under a rich black are drawn back from where black ends.
+#![tactic(auto)]
+
+mod cover;
+pub mod laws;
+mod levels;
+mod marks;
+mod parts;
+mod plate;
+mod rows;
+
+pub use cover::{Cover, cover_of};
+pub use parts::RichBlack;
+pub use plate::draw_plate;
