@@ -10,7 +10,7 @@ A sheet of any size is trapped window by window:
 A plane is a writable buffer of samples of one byte or of two: a NumPy array of uint8 or uint16, a bytearray, an array.array or a
 memoryview. 0 is no ink, `maxval` is full ink. Rows run from the top, samples in a row from the left.
 
-Any number of threads may trap at once, each its own planes: Python's lock is let go during the call.
+Any number of threads may trap at once, each its own planes: the GIL is released during the call.
 """
 from ._library import library_path
 from ._planes import Samples

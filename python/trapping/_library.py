@@ -8,24 +8,24 @@ NAME = "libtrap.so.1"
 
 _bytes = (ctypes.c_char_p, ctypes.c_size_t)
 _memory = (ctypes.c_void_p, ctypes.c_size_t)
-_told = (*_memory, ctypes.POINTER(ctypes.c_size_t))
+_text = (*_memory, ctypes.POINTER(ctypes.c_size_t))
 _page = (*_bytes, *_bytes, *_memory, *[ctypes.c_uint32] * 4)
 
 
 class Place(ctypes.Structure):
-    """Where a window stands on its sheet, and its core: trap.h's struct trap_place."""
+    """The place of a window on its sheet, and of its core: struct trap_place of trap.h."""
 
     _fields_ = [(name, ctypes.c_uint32) for name in (
         "sheet_width", "sheet_height", "left", "top", "core_left", "core_top", "core_width", "core_height")]
 
 
-_window = (*_page, ctypes.POINTER(Place), *_told)
+_window = (*_page, ctypes.POINTER(Place), *_text)
 _ARGUMENTS = {
-    "trap_planes8": (*_page, *_told),
-    "trap_planes16": (*_page, *_told),
+    "trap_planes8": (*_page, *_text),
+    "trap_planes16": (*_page, *_text),
     "trap_window8": _window,
     "trap_window16": _window,
-    "trap_halo": (*_bytes, ctypes.POINTER(ctypes.c_uint32), *_told),
+    "trap_halo": (*_bytes, ctypes.POINTER(ctypes.c_uint32), *_text),
     "trap_version": (),
 }
 
@@ -33,11 +33,11 @@ _exports: Dict[str, Callable[..., int]] = {}  # of those that were called
 
 
 def library_path() -> str:
-    """The file of the library, or its name where the system is to find it: that of the environment's TRAP_LIBRARY, then one
-    beside this package, then the system's."""
-    told = os.environ.get("TRAP_LIBRARY")
-    if told:
-        return told
+    """The file of the library: that of TRAP_LIBRARY in the environment, else the one in this package, else its name, which
+    the system looks up."""
+    given = os.environ.get("TRAP_LIBRARY")
+    if given:
+        return given
     beside = os.path.join(os.path.dirname(os.path.abspath(__file__)), NAME)
     return beside if os.path.exists(beside) else NAME
 

@@ -86,12 +86,12 @@ def _packed(shape: Tuple[int, ...], size: int) -> Tuple[int, ...]:
 
 
 def sides_of(memory: Memory, width: Optional[int], height: Optional[int]) -> Tuple[int, int]:
-    """The sides of one plane: those that are told, or those of the array."""
+    """The sides of one plane: those given, or those of the array."""
     if len(memory.shape) > 1:
         width = memory.shape[-1] if width is None else width
         height = memory.shape[-2] if height is None else height
     if width is None or height is None:
-        raise TypeError("width and height have to be told for a buffer that has no rows of its own")
+        raise TypeError("width and height must be given for a buffer without rows of its own")
     return width, height
 
 

@@ -1,5 +1,5 @@
 # SPDX-License-Identifier: Apache-2.0
-"""What is raised where a call is refused."""
+"""What is raised if a call fails."""
 import re
 from typing import Any, Optional, Tuple
 
@@ -9,14 +9,14 @@ _LINE = re.compile(r"(?P<subject>[a-z]+(?: \d+)?): (?P<kind>\w+)(?: (?P<detail>\
 
 
 class Refusal(Exception):
-    """A call that was refused: every plane is as it was.
+    """A call that failed: no plane was changed.
 
-    line     what the library says, as "job: OutOfRange TrapWidth at 14"
-    status   2 for arguments that do not fit, 3 for the job, 4 for the page, 7 where memory was refused
-    subject  what is refused: "call", "job", "page", "plate 1", "sheet" or "memory"
-    kind     the fault's name, as "OutOfRange"; docs/JOBS.md has those of a job
-    detail   what the fault names beside it, as "TrapWidth", or None
-    place    where it stands: a byte of the job, counted from 0, or a sample of the plate, row by row; None where it has no place
+    line     the library's error line, such as "job: OutOfRange TrapWidth at 14"
+    status   2 for the arguments, 3 for the job, 4 for the page, 7 if memory ran out
+    subject  what is wrong: "call", "job", "page", "plate 1", "sheet" or "memory"
+    kind     the fault's name, such as "OutOfRange"; docs/JOBS.md has those of a job
+    detail   what else the fault names, such as "TrapWidth", or None
+    place    its offset: a byte of the job, counted from 0, or a sample of the plate, row by row; or None
     """
 
     line: str
