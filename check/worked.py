@@ -491,15 +491,16 @@ def underprint():
 def keep_words():
     one, plates = ["--rich-black", "1"], [[0, 255], [0, 255]]
     white = ["--underprint", "Cyan=1"]
-    for number in ("-1", "100.1", "1e1", ".", "", "00000000000000001"):
+    for number in ("-1", "100.1", "100.0001", "1e1", ".", "", "1.2.3", "\u0663"):
         check("a width %r" % number, keep(["--rich-black", number], plates)[0][0], 2)
     for options in ([], ["--rich-black"], [*one, *one], [*one, "--black-limit", "1.1"], ["--black-limit", "1", *white],
-                    [*one, *white], [*one, "--except", "Red"], [*one, "--except", "Cyan", "--except", "Cyan"],
+                    [*one, *white], [*one, "--except", "Red"],
                     ["--underprint", "Cyan"], ["--underprint", "Red=1"], [*white, "--underprint", "Cyan=2"],
                     ["--except", "Cyan"], [*one, "--quiet"], ["--rich-black=1"]):
         check("words %r" % options, keep(options, plates)[0], (2, "usage: " + trapkeep.USAGE + "\n"))
     for options in ([*one, "--"], ["--black-limit", ".5", *one, "--except", "Cyan", "--except", "Black"],
-                    ["--underprint", "Cyan=1", "--underprint", "Black=0"], ["--rich-black", "0000000000000.5"]):
+                    ["--underprint", "Cyan=1", "--underprint", "Black=0"], ["--rich-black", "0" * 99 + ".5"],
+                    [*one, "--except", "Cyan", "--except", "Cyan"], ["--rich-black", "100.00009"]):
         check("words %r" % options, keep(options, plates)[0], (0, ""))
     for width, line in (("0.9216", ""), ("0.9217", "keepaway: TooWide\n")):
         narrow = "<< /TrapWidth .01 >> settrapparams showpage"

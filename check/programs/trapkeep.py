@@ -43,7 +43,7 @@ def keep_options(rng, names):
 def points(rng, greatest):
     """A width or a limit, in many spellings; some are none."""
     if rng.random() < 0.02:
-        return rng.choice(["", ".", "-1", "+1", "1e0", "100.0001", "1.0001", "0" * 17, " 1", "1,5", "٣"])
+        return rng.choice(["", ".", "-1", "+1", "1e0", "100.0001", "1.0001", "1.2.3", " 1", "1,5", "٣"])
     if greatest == 1:
         return rng.choice(["0", "0", "1.", ".5", ".1", "0.85", "0.9999", "0.00019", "%.6f" % rng.random()])
     near = rng.choice([0.5, 1, 1.4999, 1.5, 2, 2.5, 3, rng.uniform(0, 6)])

@@ -10,7 +10,7 @@ from .pages import assemble, judged_job, read_job, read_plate
 from .plates import SHEET
 from .rule import rule_of
 from .trapsheet import judge_sheet
-from .words import MOST_PLATES, NoCommand, judge_distinct, named_plates
+from .words import NoCommand, judge_distinct, named_plates
 from .writing import write_file, write_side_by_side
 
 USAGE = ("trapkeep --rich-black WIDTH [--black-limit LIMIT] [--except NAME] ... JOB REPORT NAME:IN:OUT ... | "
@@ -55,18 +55,16 @@ def options_of(words):
     limit = [decimal(word, S) for word in found["--black-limit"]]
     pairs = [name_and_width(word) for word in found["--underprint"]]
     spared = found["--except"]
-    judge_distinct(spared)
     judge_distinct([name for name, _ in pairs])
     alone = (limit or spared) and not width
-    often = len(width) > 1 or len(limit) > 1 or max(len(spared), len(pairs)) > MOST_PLATES
-    if alone or often or bool(width) == bool(pairs):
+    if alone or len(width) > 1 or len(limit) > 1 or bool(width) == bool(pairs):
         raise NoCommand()
     return Uses((width or [None])[0], (limit or [USUAL_LIMIT])[0], spared, dict(pairs)), rest
 
 
 def decimal(word, greatest):
-    """A number in ten-thousandths: digits with at most one point, 1 to 16 characters; further digits are cut."""
-    if not re.fullmatch("[0-9]+[.]?[0-9]*|[.][0-9]+", word) or not word.isascii() or len(word) > 16:
+    """A number in ten-thousandths: digits with at most one point; those after the fourth decimal are cut."""
+    if not re.fullmatch("[0-9]+[.]?[0-9]*|[.][0-9]+", word):
         raise NoCommand()
     whole, _, part = word.partition(".")
     value = int(whole or "0") * S + int((part + "0000")[:4])
