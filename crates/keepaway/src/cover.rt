@@ -37,6 +37,15 @@ impl Model for Cover {
     } };
 }
 
+impl Cover {
+    /// For each pixel 0 where it is not covered, 2 where it is and is open, else 1.
+    pub fn marks(&self) -> &[u8]
+        ensures { result.now ≡ self.now.marks }
+    {
+        self.marks.as_slice()
+    }
+}
+
 /// Writes the zone of each pixel.
 fn fill_zones(page: &Page, spans: &mut SpanBuf, row: &mut [u8], zones: &mut [u8])
     requires spans { spans.old.wide ≡ width page.now }

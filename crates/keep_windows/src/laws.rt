@@ -1,0 +1,18 @@
+// Laws over the definitions: each function does nothing, and its contract is the law.
+
+ghost use Rattle.std.specs.Prelude.{◌+◌, ◌<◌, ℕ};
+ghost use Rattle.lists.specs.Words.{square};
+ghost use Rattle.page_model.specs.declared.parts.PageParts.{PageParts};
+ghost use Rattle.sheet_windows.specs.declared.cuts.Cut.{Cut};
+ghost use Rattle.sheet_windows.specs.Windows.{IsCut};
+ghost use Rattle.keepaway.specs.declared.parts.RichBlack.{RichBlack};
+ghost use Rattle.keepaway.specs.Keepaway.{near_limit};
+ghost use Rattle.keep_windows.specs.KeepWindows.{KeepWindowLaw};
+
+/// A window of a sheet has its sheet's cover and its sheet's new tints, but for a halo of the width and one pixel along
+/// those borders that are not the sheet's.
+pub fn keep_window_law()
+    ensures { (sheet : PageParts) (cut : Cut) (rich : RichBlack) (radius : ℕ) → IsCut sheet cut
+        → near_limit rich.width sheet.resolution < square (radius + 1)
+        → KeepWindowLaw sheet cut rich radius }
+{}
