@@ -1,5 +1,5 @@
 -- The eight kinds of step keep the rule of the table of a page.
-use Rattle.std.proofs.Common.{◌&&◌, nat_lt, replicate, [], ◌∷◌, ◌++◌, set, Bool, inl, inr, ne_eqb, ◌≡◌, ℕ, ◌+◌, ◌-◌, ◌^◌, ◌<◌, ◌≤◌, ◌==◌, true, List, length, refl, sym, ap, ◌∙◌, subst, arith, Option, Some, None, get_or}
+use Rattle.std.proofs.Common.{◌&&◌, nat_lt, replicate, [], ◌∷◌, ◌++◌, set, Bool, inl, inr, ne_eqb, ◌≡◌, ◌≢◌, ℕ, ◌+◌, ◌-◌, ◌^◌, ◌<◌, ◌≤◌, ◌==◌, true, List, length, refl, sym, ap, ◌∙◌, subst, arith, Option, Some, None, get_or}
 use Rattle.std.specs.Prelude.{MatchOption}
 use prog.Atomic.{either}
 use Rattle.std.proofs.lemmas.List.{set-get_or}
@@ -32,7 +32,8 @@ use Rattle.band_claims.specs.TableKeys.{shape_of, cell, IsFit}
 use Rattle.band_claims.specs.Rule.{RuleOf, piece_word}
 use Rattle.band_claims.specs.Shares.{IsWhole}
 use Rattle.band_claims.proofs.ShareLemmas.{one_alone, others_none}
-use Rattle.band_claims.specs.Views.{IsFair, Knows, one_if, publishes, times, newcomer, spent, looked_at, claimed, put, finished, parted, branched, joined}
+use Rattle.band_claims.proofs.Boards.{same_one}
+use Rattle.band_claims.specs.Views.{IsFair, Knows, holds, is_hand, one_if, publishes, times, newcomer, spent, looked_at, claimed, put, finished, parted, branched, joined}
 use Rattle.band_claims.specs.Tells.{Cell, Fair}
 use Rattle.band_claims.proofs.Kept.{Kept, Sits}
 use Rattle.band_claims.proofs.Readable.{ruled, kept}
@@ -180,6 +181,18 @@ module _ (key : TableKey) (fit : IsFit key) where
       | inr some_there ↦ (let l = ((r.seats id v at).known i (omega (arith, some_there))).0 in absurd (true≢false (sym (lt-ltb i k.pieces l) ∙ outside)))
     ]
   ]
+
+  -- and where it holds nothing, no piece is claimed
+  none_claimed : (s : St) → Kept k (cell key) key s → (id : ℕ) (v : View) → get_elem? s.views id ≡ some v → v.held ≡ None → IsWhole v.share → (i : ℕ) → i < k.pieces → piece_word s.words i ≢ 1
+  none_claimed s r id v at idle whole i l one =
+      let alone = one_alone (holds i) s.views id v at (λ j d ne e. ap (is_hand i) ((r.seats j d e).unshared (others_none s.views id v at r.shares whole j d ne e)).0) in
+      let mine : holds i v ≡ 0 = ap (is_hand i) idle in
+      let claimed_one : one_if (piece_word s.words i == 1) ≡ 1 = same_one (piece_word s.words i) 1 one in
+      omega (arith, r.one_holder i l, alone, mine, claimed_one)
+
+  pub settles : (id : ℕ) (v : View) (ws : List ℕ) (xs : List (Unit {0})) → Final (Seen (Remembered key) id v) ws xs → v.held ≡ None → IsWhole v.share → (i : ℕ) → i < k.pieces → piece_word ws i ≢ 1
+  settles id v ws xs f idle whole i l =
+      subst (λ (ws' : List ℕ). piece_word ws' i ≢ 1) f.2 (none_claimed f.0 (there f.0 f.1.0.rule) id v f.1.1 idle whole i l)
 
   pub closes : (id : ℕ) (v : View) (ws : List ℕ) (xs : List (Unit {0})) → Final (Seen (Remembered key) id v) ws xs
       → Sound k (cell key) (board_of k ws) × Sits k key ws v × ((i : ℕ) → times i v.published ≤ 1) × (length ws ≡ k.pieces + k.cells) × ((i : ℕ) → i < k.pieces → piece_word ws i ≤ 2)

@@ -8,6 +8,8 @@ use Rattle.band_claims.specs.TableKeys.{shape_of, IsFit}
 pub record Receipt : Type 0 where
   pub table_key : TableKey
   pub words : List ℕ
+  -- the words when the table was closed
+  pub left : List ℕ
   pub published : List ℕ
   pub seen : List ℕ
   pub looked : List Look

@@ -15,12 +15,14 @@ use std::alloc::Global;
 use std::marker::Model;
 use std::snapshot::Snapshot;
 
-/// A table that no thread steps on any more. For contracts alone it keeps the last pass as it was given.
+/// A table that no thread steps on any more. For contracts alone it keeps the last pass and the words as they were when
+/// it was closed.
 pub struct Closed {
     pub(crate) table: atomic_table::Closed<(), Global>,
     pub(crate) table_key: TableKey,
     pub(crate) marks: Vec<u8>,
     pub(crate) last: Snapshot<Pass>,
+    pub(crate) left: Snapshot<atomic_table::Closed<(), Global>>,
 }
 
 impl Model for Closed {
@@ -34,6 +36,7 @@ impl Model for Closed {
     ghost view = { λ c. record {
       table_key = c.table_key;
       words = slots_items c.table.words;
+      left = slots_items c.left.value.words;
       published = c.last.value.view.published;
       seen = c.last.value.view.seen;
       looked = c.last.value.view.looked;
@@ -110,6 +113,7 @@ impl Closed {
             → times i self.new.alone ≡ times i self.old.alone + one_if (i == piece) }
         ensures order { Ascends 0 self.new.alone }
         ensures table_key { self.new.table_key ≡ self.old.table_key }
+        ensures left { self.new.left ≡ self.old.left }
         ensures published { self.new.published ≡ self.old.published }
         ensures seen { self.new.seen ≡ self.old.seen }
         ensures looked { self.new.looked ≡ self.old.looked }
@@ -128,6 +132,7 @@ impl Drop for Closed {
             table_key,
             marks,
             last,
+            left,
         } = self;
         table.free();
     }

@@ -1,10 +1,11 @@
 // The meaning of the table's rule: each function does nothing, and its contract is the law.
 
+ghost use Rattle.std.specs.Prelude.{Bool};
 ghost use Rattle.band_claims.specs.declared.table_key.TableKey.{TableKey};
 ghost use Rattle.band_claims.specs.declared.view.View.{View};
 ghost use Rattle.band_claims.specs.Laws.{DoneStaysDone, EndsAreRuns, HeldOnce, KeepsRule, LooksArePast, LooksAreTold, LooksRise, PublishedOnce, StepsAreRun};
 ghost use Rattle.band_claims.specs.Rule.{RuleOf};
-ghost use Rattle.band_claims.specs.Refuted.{MayForge};
+ghost use Rattle.band_claims.specs.Refuted.{LooksAreHonest, MayForge};
 ghost use Rattle.band_claims.specs.TableKeys.{IsFit, cell, shape_of};
 ghost use Rattle.atomic_table.specs.Table.{State};
 ghost use Rattle.band_board.specs.Runs.{Sound};
@@ -58,14 +59,22 @@ pub fn looks_rise_law()
     ensures { (key : TableKey) → IsFit key → LooksRise key }
 {}
 
-/// The rule allows no step by which a seat would be told that a piece is claimed without regard to the piece's word.
-pub fn no_false_claims_law()
-    ensures { (key : TableKey) → IsFit key → MayForge key 1 → ⊥ }
+/// If the rule allows passes that hold nothing, or readers, steps that tell of some word in place of the one that was
+/// found, then each of the words 0, 1 and 2 is told of as it is: no claimed piece as free, and no done one as claimed.
+pub fn looks_are_honest_law()
+    ensures { (key : TableKey) → IsFit key → LooksAreHonest key }
 {}
 
-/// The rule allows no step by which a seat would be told that a piece is free without regard to the piece's word.
+/// The rule allows neither passes that hold nothing nor readers a step by which they would be told that a piece is
+/// claimed without regard to the piece's word.
+pub fn no_false_claims_law()
+    ensures { (key : TableKey) → IsFit key → (works : Bool) → MayForge key works 1 → ⊥ }
+{}
+
+/// The rule allows neither passes that hold nothing nor readers a step by which they would be told that a piece is free
+/// without regard to the piece's word.
 pub fn no_false_looks_law()
-    ensures { (key : TableKey) → IsFit key → MayForge key 0 → ⊥ }
+    ensures { (key : TableKey) → IsFit key → (works : Bool) → MayForge key works 0 → ⊥ }
 {}
 
 /// A piece that the last pass of a closed table published or saw done was never told to it as not done afterwards.

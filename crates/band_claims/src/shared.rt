@@ -346,15 +346,18 @@ impl Shared {
         one
     }
 
-    /// Closes the table, with what the last pass knew. Its words are those of a sound board, and steps of the eight
-    /// kinds led to them from the opening. If the pass has all shares, it alone has published.
+    /// Closes the table, with what the last pass knew, which holds nothing. Its words are those of a sound board, and
+    /// steps of the eight kinds led to them from the opening. If the pass has all shares, it alone has published, and no
+    /// piece is left claimed.
     pub fn close_all(self, pass: Pass) -> Closed
         requires pass { Seats self pass }
+        requires idle { pass.view.held ≡ None }
         ensures table_key { result.table_key ≡ self.table_key }
         ensures sound { Sound (shape_of result.table_key) (cell result.table_key)
             (board_of (shape_of result.table_key) result.words) }
         ensures words { AreWords (shape_of result.table_key) result.words }
         ensures run { Ends result.table_key result.words pass.view }
+        ensures left { result.left ≡ result.words }
         ensures published { result.published ≡ pass.view.published }
         ensures seen { result.seen ≡ pass.view.seen }
         ensures looked { result.looked ≡ pass.view.looked }
@@ -363,6 +366,8 @@ impl Shared {
         ensures whole { IsWhole pass.view.share → (i : ℕ) → times i result.published
             ≡ one_if (nat_lt i (pieces_of result.table_key.layout.bands)
             && (piece_word result.words i == 2)) }
+        ensures settled { IsWhole pass.view.share → (i : ℕ)
+            → i < pieces_of result.table_key.layout.bands → piece_word result.words i ≢ 1 }
         ensures once { (i : ℕ) → times i result.published ≤ 1 }
         ensures alone { result.alone ≡ [] }
         ensures room { result.room ≡ self.room }
@@ -378,11 +383,14 @@ impl Shared {
             piece: _,
             next: _,
         } = pass;
+        let closed = table.close_with(seat);
+        let left = Snapshot::of(&closed);
         Closed {
-            table: table.close_with(seat),
+            table: closed,
             table_key,
             marks,
             last,
+            left,
         }
     }
 }

@@ -12,12 +12,13 @@ abbrev pub HasCells : Receipt → ℕ → Type 0
 HasCells receipt piece = (j : ℕ) → Has (shape_of receipt.table_key) piece j
     → cell_word (shape_of receipt.table_key) receipt.words j ≡ cell receipt.table_key j
 
--- the lists of the last pass stay, and the memory of the marks
+-- the lists of the last pass stay, what the passes left, and the memory of the marks
 pub record KeepsLists (before after : Receipt) : Type 0 where
   pub published : after.published ≡ before.published
   pub seen : after.seen ≡ before.seen
   pub looked : after.looked ≡ before.looked
   pub told : after.told ≡ before.told
+  pub left : after.left ≡ before.left
   pub room : after.room ≡ before.room
 
 -- the cells of the piece have their defined values, and all else stays

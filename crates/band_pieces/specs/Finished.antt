@@ -1,5 +1,5 @@
 -- A closed table of a page on which all work is done.
-use Rattle.std.specs.Prelude.{◌≡◌, ℕ, ◌+◌, ◌<◌, ◌==◌, ◌&&◌, not, nat_lt, List}
+use Rattle.std.specs.Prelude.{◌≡◌, ◌≢◌, None, ℕ, ◌+◌, ◌<◌, ◌==◌, ◌&&◌, not, nat_lt, List}
 use Rattle.atomic_table.specs.Table.{State}
 use Rattle.page_model.specs.declared.parts.PageParts.{PageParts}
 use Rattle.band_claims.specs.declared.view.View.{View}
@@ -11,13 +11,15 @@ use Rattle.band_claims.specs.TableKeys.{cell, shape_of, IsFit}
 use Rattle.band_claims.specs.Views.{one_if, times}
 use Rattle.band_workers.specs.Accounts.{IsAccounted}
 
--- The table as the passes left it: steps of the eight kinds led there from its opening, what the
--- receipt tells of the last pass is what a seat knew then, and made alone were just the pieces
--- that were not done.
+-- The table as the passes left it: steps of the eight kinds led there from its opening, to the
+-- words that the receipt keeps, what the receipt tells of the last pass is what a seat knew then,
+-- which held nothing, no piece was claimed and not done, and made alone were just the pieces that
+-- were not done.
 pub record WasLeft (receipt : Receipt) : Type 0 where
   pub kinds : List Kind
   pub left : State (Unit {0}) View
   pub steps : Steps receipt.table_key kinds left
+  pub words : left.words ≡ receipt.left
   pub seat : ℕ
   pub view : View
   pub sees : Sees left seat view
@@ -25,8 +27,10 @@ pub record WasLeft (receipt : Receipt) : Type 0 where
   pub seen : view.seen ≡ receipt.seen
   pub looked : view.looked ≡ receipt.looked
   pub told : view.told ≡ receipt.told
+  pub idle : view.held ≡ None
+  pub settled : (i : ℕ) → i < (shape_of receipt.table_key).pieces → piece_word receipt.left i ≢ 1
   pub alone : (i : ℕ) → times i receipt.alone
-      ≡ one_if (nat_lt i (shape_of receipt.table_key).pieces && not (piece_word left.words i == 2))
+      ≡ one_if (nat_lt i (shape_of receipt.table_key).pieces && not (piece_word receipt.left i == 2))
 
 -- Every piece is done and every cell is the defined one, of that page; each piece was made once,
 -- by a pass that published it or alone; each piece is accounted for; and the passes' part was a

@@ -17,18 +17,18 @@ pub record FoundUndone (receipt : Receipt) (piece : ℕ) : Type 0 where
   pub need : is_need receipt.table_key.layout.bands piece shown.piece ≡ true
   pub not_done : shown.word ≢ 2
 
--- of a piece that no pass had claimed when the table was closed, a need was found not done
+-- of a piece that no pass had published when the table was closed, a need was found not done
 abbrev pub LeftForNeeds : Type 0
 LeftForNeeds = (page : PageParts) (receipt : Receipt) → (f : IsFinished page receipt) → (i : ℕ)
-    → i < (shape_of receipt.table_key).pieces → piece_word f.run.left.words i ≡ 0
+    → i < (shape_of receipt.table_key).pieces → piece_word receipt.left i ≢ 2
     → FoundUndone receipt i
 
--- so each piece that needs no other was claimed by a pass
-abbrev pub FirstAreClaimed : Type 0
-FirstAreClaimed = (page : PageParts) (receipt : Receipt) → (f : IsFinished page receipt) → (i : ℕ)
+-- so each piece that needs no other was published by a pass
+abbrev pub FirstAreDone : Type 0
+FirstAreDone = (page : PageParts) (receipt : Receipt) → (f : IsFinished page receipt) → (i : ℕ)
     → i < (shape_of receipt.table_key).pieces
     → ((n : ℕ) → is_need receipt.table_key.layout.bands i n ≢ true)
-    → piece_word f.run.left.words i ≢ 0
+    → piece_word receipt.left i ≡ 2
 
 -- the looks that a receipt tells of end what its last pass was told, in which of two words of
 -- one piece the later one is no less

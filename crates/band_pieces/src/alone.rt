@@ -60,6 +60,7 @@ pub fn finish_alone(closed: &mut Closed, page: &Page, scratch: &mut Scratch)
     ensures seen_stays { closed.new.seen ≡ closed.old.seen }
     ensures looked_stays { closed.new.looked ≡ closed.old.looked }
     ensures told_stays { closed.new.told ≡ closed.old.told }
+    ensures left_stays { closed.new.left ≡ closed.old.left }
     ensures room_stays { closed.new.room ≡ closed.old.room }
 {
     let _whole = closed.table_key();

@@ -1,5 +1,5 @@
 // All of a page's work at a table.
-ghost use Rattle.std.specs.Prelude.{◌≡◌, ℕ, ◌<◌, IsTrue, false};
+ghost use Rattle.std.specs.Prelude.{◌≡◌, ℕ, ◌<◌, IsTrue, None, false};
 ghost use Rattle.band_claims.specs.Seating.{Seats};
 ghost use Rattle.band_claims.specs.Shares.{IsWhole};
 ghost use Rattle.band_claims.specs.Views.{Knows, Looks};
@@ -34,13 +34,14 @@ pub fn are_all_done(shared: &Shared, reader: &mut Reader) -> bool
     true
 }
 
-/// Closes the table, whose passes have all been joined into this one, so that it has all shares, and makes what the
-/// workers left undone. It allocates nothing and waits for no thread.
+/// Closes the table, whose passes have all been joined into this one, so that it has all shares, and which holds
+/// nothing, and makes what the workers left undone. It allocates nothing and waits for no thread.
 pub fn finish_table(shared: Shared, pass: Pass, page: &Page, scratch: &mut Scratch) -> Closed
     requires page { page.now ≡ shared.table_key.page.value }
     requires scratch { scratch.old.layout ≡ shared.table_key.layout }
     requires pass { Seats shared pass }
     requires whole { IsWhole pass.view.share }
+    requires idle { pass.view.held ≡ None }
     requires accounted { (i : ℕ) → i < pieces_of shared.table_key.layout.bands
         → IsAccounted shared.table_key.layout.bands pass.view i }
     ensures scratch { scratch.new ≡ scratch.old }

@@ -7,6 +7,7 @@ ghost use Rattle.band_claims.specs.Filled.{filled_to};
 ghost use Rattle.page_model.specs.Bands.{AreBands, pieces_of};
 ghost use Rattle.page_model.specs.Page.{height, plates, width};
 ghost use Rattle.page_model.specs.Reach.{page_reach};
+ghost use Rattle.band_pieces.specs.Room.{Memory};
 
 use crate::fills::fill;
 use crate::sinks::CellSink;
@@ -112,6 +113,10 @@ impl Scratch {
 impl Maker for Scratch {
     ghost serves = { λ scratch table_key. scratch.layout ≡ table_key.layout };
 
+    ghost Room = { Memory };
+
+    ghost room = { λ scratch. scratch };
+
     fn fill(&mut self, page: &Page, shared: &Shared, pass: &mut Pass, piece: u32)
         requires page { page.now ≡ shared.now.table_key.page.value }
         requires serves { self.old.layout ≡ shared.now.table_key.layout }
@@ -125,7 +130,7 @@ impl Maker for Scratch {
         ensures pass { Seats shared.now pass.new }
         ensures filled { pass.new.view
             ≡ filled_to ((shape_of shared.now.table_key).size piece) pass.old.view }
-        ensures memory { self.new ≡ self.old }
+        ensures room { self.new ≡ self.old }
     {
         let _fits = shared.bands();
         self.fill_piece(shared, pass, page, piece);

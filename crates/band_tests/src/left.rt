@@ -37,7 +37,7 @@ fn make_piece(
     true
 }
 
-/// Makes the first `count` pieces, and claims the next one.
+/// Makes the first `count` pieces.
 fn make_first(
     shared: &Shared,
     pass: &mut Pass,
@@ -52,16 +52,17 @@ fn make_first(
     requires idle { pass.old.view.held ≡ None }
     ensures scratch { scratch.new ≡ scratch.old }
     ensures pass { Seats shared.now pass.new }
+    ensures idle { pass.new.view.held ≡ None }
 {
     let mut all = true;
     for piece in 0..count {
         all = make_piece(shared, pass, page, scratch, piece) && all;
     }
-    shared.claim(pass, count) && all
+    all
 }
 
-/// What becomes of a table that was left with `done` pieces done and the next one claimed, and then finished alone:
-/// whether it was left so, and whether it is the whole page.
+/// What becomes of a table that was left with `done` pieces done and the next one claimed by a pass that was let go,
+/// and then finished alone: whether it was left so, and whether it is the whole page.
 fn leave_at(
     shared: Shared,
     pass: Pass,
@@ -78,10 +79,12 @@ fn leave_at(
     let mut pass = pass;
     let mut reader = shared.reader(&mut pass);
     let made = make_first(&shared, &mut pass, page, scratch, done);
+    let (pass, mut other) = shared.split(pass);
+    let claimed = shared.claim(&mut other, done);
     let _fits = shared.bands();
     let all = are_all_done(&shared, &mut reader);
     let mut closed = shared.close_all(pass);
-    let was_left = made && !all && closed.state(done) == 1;
+    let was_left = made && claimed && !all && closed.state(done) == 1;
     finish_alone(&mut closed, page, scratch);
     (was_left, is_whole(&closed, page))
 }

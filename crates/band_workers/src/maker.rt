@@ -10,10 +10,16 @@ ghost use Rattle.band_claims.specs.Filled.{filled_to};
 use band_claims::{Pass, Shared};
 use page_model::page::Page;
 
-/// A maker of pieces: it fills the cells of a piece, from the page and the cells of the piece's needs.
+/// A maker of pieces: it fills the cells of a piece, from the page and the cells of the piece's needs, and takes no
+/// memory for it.
 pub trait Maker {
     /// Whether the maker was made for a table's page and bands.
     ghost serves: { Self → TableKey → Type 0 };
+
+    /// How much memory the maker has, as far as it is seen.
+    ghost Room: { Type 0 };
+
+    ghost room: { Self → Self.Room };
 
     /// Fills all cells of the piece that the pass holds.
     fn fill(&mut self, page: &Page, shared: &Shared, pass: &mut Pass, piece: u32)
@@ -28,5 +34,6 @@ pub trait Maker {
         ensures serves { serves self.new shared.now.table_key }
         ensures pass { Seats shared.now pass.new }
         ensures filled { pass.new.view
-            ≡ filled_to ((shape_of shared.now.table_key).size piece) pass.old.view };
+            ≡ filled_to ((shape_of shared.now.table_key).size piece) pass.old.view }
+        ensures room { Self.room self.new ≡ Self.room self.old };
 }

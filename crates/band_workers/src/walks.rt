@@ -28,6 +28,7 @@ fn visit<M: Maker, G: Gate>(
     requires piece { piece < pieces_of shared.now.table_key.layout.bands }
     requires idle { pass.old.view.held ≡ None }
     ensures maker { M.serves maker.new shared.now.table_key }
+    ensures room { M.room maker.new ≡ M.room maker.old }
     ensures pass { Seats shared.now pass.new }
     ensures made { IsTrue result → Made piece pass.old.view pass.new.view }
     ensures fair { IsTrue result
@@ -57,6 +58,7 @@ fn walk<M: Maker, G: Gate>(
     requires pass { Seats shared.now pass.old }
     requires idle { pass.old.view.held ≡ None }
     ensures maker { M.serves maker.new shared.now.table_key }
+    ensures room { M.room maker.new ≡ M.room maker.old }
     ensures pass { Seats shared.now pass.new }
     ensures idle { pass.new.view.held ≡ None }
     ensures published { Publishes pass.old.view pass.new.view }
@@ -81,6 +83,7 @@ fn walk<M: Maker, G: Gate>(
 /// Goes through the pieces round after round, claims and makes those that it can, and ends after a round without a
 /// claim. Each piece is then accounted for in the pass: it was published or seen done, or `looked` shows a need of it
 /// that was not done or that it was not free. What the pass was told before, it still tells, and it keeps its share.
+/// The maker has the memory that it had.
 pub fn work<M: Maker, G: Gate>(
     shared: &Shared,
     pass: Pass,
@@ -93,6 +96,7 @@ pub fn work<M: Maker, G: Gate>(
     requires pass { Seats shared.now pass }
     requires idle { pass.view.held ≡ None }
     ensures maker { M.serves maker.new shared.now.table_key }
+    ensures room { M.room maker.new ≡ M.room maker.old }
     ensures pass { Seats shared.now result }
     ensures idle { result.view.held ≡ None }
     ensures published { Publishes pass.view result.view }

@@ -2,6 +2,7 @@
 use Rattle.std.specs.Prelude.{◌≡◌, ℕ, ◌≤◌, All, List, None, length}
 use Rattle.band_claims.specs.Seating.{OpenTable, Seating, Seats}
 use Rattle.band_claims.specs.Shares.{IsWhole}
+use Rattle.band_claims.specs.Views.{newcomer}
 use Rattle.page_model.specs.declared.parts.PageParts.{PageParts}
 use Rattle.row_cells.specs.Layouts.{Layout}
 use Rattle.band_pieces.specs.Room.{Memory}
@@ -16,24 +17,23 @@ pub record PageOf : Type 0 where
   pub value : PageParts
 
 -- what contracts see of a room: its page, the layout of its cells, how many workers it has memory
--- for, and in how many parts the rows are counted
+-- for, in how many parts the rows are counted, and how many marks its table has memory for
 pub record RoomView : Type 0 where
   pub page : PageOf
   pub layout : Layout
   pub workers : ℕ
   pub parts : ℕ
+  pub marks : ℕ
 
--- a table with its first pass, which holds nothing and has all shares; the memory of some
--- workers and
--- of the caller, made for the table; and for the table's page the works of its plates and the
--- parts of
--- its rows, at most as many as workers, each with a seat of the table to read by, and an outcome
--- with
--- nothing in it
+-- a table with its first pass, which is new: nothing was claimed, found or told by it; the memory
+-- of some workers and of the caller, made for the table; and for the table's page the works of its
+-- plates and the parts of its rows, at most as many as workers, each with a seat of the table to
+-- read by, and an outcome with nothing in it
 pub record IsRoom (shared : OpenTable) (pass : Seating) (scratches : List Memory)
     (alone_scratch : Memory) (works : List PlateWork) (parts : List Part)
     (outcome : Outcome) : Type 0 where
   pub seat : Seats shared pass
+  pub fresh : pass.view ≡ newcomer shared.table_key
   pub idle : pass.view.held ≡ None
   pub whole : IsWhole pass.view.share
   pub served : All (λ (scratch : Memory). scratch.layout ≡ shared.table_key.layout) scratches

@@ -25,7 +25,8 @@ use std::marker::Model;
 
 /// All the memory that trapping a page by workers takes: the shared table, the memory of each worker, the planes of the
 /// result and the counts. Contracts see the page that it was made for, the layout of its cells, the number of workers
-/// that it has memory for, and the number of parts in which the page's rows are counted, each in a thread.
+/// that it has memory for, the number of parts in which the page's rows are counted, each in a thread, and how many
+/// marks its table has memory for. No piece was claimed by its pass yet.
 #[derive(Drop)]
 pub struct TrapRoom {
     pub(crate) shared: Shared,
@@ -51,6 +52,7 @@ impl Model for TrapRoom {
       layout = r.shared.table_key.layout;
       workers = length r.scratches.items;
       parts = length r.parts.items;
+      marks = r.shared.room;
     } };
 
     ghost invariant = { λ r. IsRoom r.shared r.pass r.scratches.items r.alone_scratch r.works.items

@@ -96,6 +96,7 @@ pub fn trap_in<R: Threads + Sync, G: Gate + Sync>(
     ensures planes { result.0.planes ≡ trapped_planes page.now }
     ensures counts { result.0.counts ≡ page_counts page.now }
     ensures receipt { IsWholeReceipt page.now room.layout.bands.height result.1 }
+    ensures memory { result.1.room ≡ room.marks }
 {
     let TrapRoom {
         shared,

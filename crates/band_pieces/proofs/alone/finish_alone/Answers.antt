@@ -71,5 +71,8 @@ returns-clause-looked_stays c = c.loop-piece.invariant.closed.lists.looked
 pub returns-clause-told_stays : goal.returns-clause-told_stays
 returns-clause-told_stays c = c.loop-piece.invariant.closed.lists.told
 
+pub returns-clause-left_stays : goal.returns-clause-left_stays
+returns-clause-left_stays c = c.loop-piece.invariant.closed.lists.left
+
 pub returns-clause-room_stays : goal.returns-clause-room_stays
 returns-clause-room_stays c = c.loop-piece.invariant.closed.lists.room

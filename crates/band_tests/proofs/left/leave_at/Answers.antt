@@ -1,4 +1,5 @@
--- leave_at: what a table is that was left with so many pieces done and the next one claimed, and
+-- leave_at: what a table is that was left with so many pieces done and the next one claimed by a
+-- pass that was let go, and
 -- then finished alone.
 use Rattle.std.proofs.Common.{sym, ap, ◌∙◌, subst, arith}
 use Rattle.band_claims.specs.declared.table_key.TableKey.{TableKey}

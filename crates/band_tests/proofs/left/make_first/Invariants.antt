@@ -1,4 +1,4 @@
--- The loops of make_first: makes the first pieces, so many of them, and claims the next one.
+-- The loops of make_first: makes the first pieces, so many of them.
 use Rattle.std.proofs.Common.{◌≡◌, None}
 use Rattle.band_claims.specs.Seating.{Seats}
 use Rattle.band_tests.proofs.left.make_first.Given as goal

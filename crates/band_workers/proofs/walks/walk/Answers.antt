@@ -19,6 +19,7 @@ loop-piece-preserved g c =
     let bands = c.args.shared.now.table_key.layout.bands in elim c.if-visit.branch [
       | then-visit w ↦ (let t = c.visit.ensures.made w.if-visit.true in record {
         maker = c.visit.ensures.maker;
+        room = c.visit.ensures.room ∙ i.room;
         pass = c.visit.ensures.pass;
         idle = t.idle;
         published = publishes_made c.loop-piece.piece u v x i.published t;
@@ -30,6 +31,7 @@ loop-piece-preserved g c =
       })
       | else-visit w ↦ (let t = c.visit.ensures.lost w.if-visit.false in let same = still bands c.loop-piece.piece v x t in record {
         maker = c.visit.ensures.maker;
+        room = c.visit.ensures.room ∙ i.room;
         pass = c.visit.ensures.pass;
         idle = still_idle bands c.loop-piece.piece v x t i.idle;
         published = (i.published.0, same ∙ i.published.1);

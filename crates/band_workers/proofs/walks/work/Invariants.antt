@@ -9,6 +9,7 @@ use Rattle.band_workers.proofs.walks.work.Given as goal
 abbrev pub invariant-loop-won : goal.invariant-loop-won
 invariant-loop-won g l = record {
   maker : g.M.Maker.serves l.maker l.shared.table_key;
+  room : g.M.Maker.room l.maker ≡ g.M.Maker.room l.initial.maker;
   pass : Seats l.shared l.pass;
   idle : l.pass.view.held ≡ None;
   published : Publishes l.initial.pass.view l.pass.view;

@@ -10,6 +10,7 @@ invariant_of-result-3 c =
     let same = c.pass-2.view_is ∙ (c.in_ok-parts.ensures.pass ∙ c.in_ok-works.ensures.pass) in
     rw (c.shared.view_is, same) (record {
       seat = c.in_ok-shared.ensures.pass;
+      fresh = c.in_ok-shared.ensures.new;
       idle = ap (λ (v : View). v.held) c.in_ok-shared.ensures.new;
       whole = newcomer_whole c.in_ok-shared.shared.table_key c.in_ok-shared.pass.view c.in_ok-shared.ensures.new;
       served = served_by c.in_ok-shared.shared.table_key.layout c.new-bands.result c.width.result c.plates.result _ _ c.in_ok-scratches_of.field-0.items (c.in_ok-shared.ensures.layout ∙ c.new-layout.ensures.value) c.width.ensures.value c.plates.ensures.value c.in_ok-scratches_of.ensures.made;
