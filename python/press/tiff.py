@@ -73,8 +73,9 @@ def write_separation(path: bytes, array: Array, resolution: int) -> None:
     height, width = array.shape
     mode = "L" if array.dtype.itemsize == 1 else "I;16B"
     image = Image.frombuffer(mode, (width, height), array, "raw", mode, 0, 1)
-    image.save(os.fsdecode(path), format="TIFF", compression="tiff_lzw", dpi=(resolution, resolution),
-               tiffinfo={CHANNELS: 1})
+    # By its handle: the encoder takes no name that is not UTF-8.
+    with open(os.open(path, os.O_RDWR | os.O_CREAT | os.O_TRUNC, 0o666), "w+b") as file:
+        image.save(file, format="TIFF", compression="tiff_lzw", dpi=(resolution, resolution), tiffinfo={CHANNELS: 1})
 
 
 # The file of all inks
