@@ -36,7 +36,7 @@ typedef uint8_t trap_status;
 
 #define TRAP_MOST_PLANES 16
 #define TRAP_MOST_SIDE 16384
-#define TRAP_MOST_SAMPLES 160000000 /* width * height of one plane; all planes of a page together too, see docs/JOBS.md */
+#define TRAP_MOST_SAMPLES 160000000 /* width * height of one plane; all planes of a page together too, see docs/LIBRARY.md */
 #define TRAP_MOST_SHEET_SIDE 262144
 
 /* trap_planes8, trap_planes16: trap the planes of a page, of samples of one byte or of two in the machine's order.
@@ -64,6 +64,7 @@ typedef uint8_t trap_status;
  *   - Until the call returns, no other thread accesses samples, text, *text_len or *halo, and none writes job, names or *place.
  *   - malloc, realloc and free are one allocator, and align blocks to 16 bytes as the C library's do.
  *   - The call is not made from a signal handler, nor in a forked child of a program with threads.
+ *   - The calling thread has 64 KB of stack left.
  */
 trap_status trap_planes8(const uint8_t *job, size_t job_size, const uint8_t *names, size_t names_size,
                          uint8_t *samples, size_t sample_count,
