@@ -10,7 +10,6 @@ import tempfile
 import time
 from collections.abc import Collection, Iterator, Sequence
 from dataclasses import dataclass
-from typing import Protocol
 
 from . import preflight, tools
 from .errors import PressError, Status, UsageError
@@ -20,6 +19,7 @@ from .folder import JobFolder
 from .inks import open_book
 from .names import MOST_PLATES, PROCESS
 from .plates import MOST_SAMPLES
+from .printing import FarmLines
 from .proof import write_sheet_of_all
 from .runs import HELD
 from .settings import Settings
@@ -36,29 +36,6 @@ FOR_PAGES, PAGE_SHELL = ("TRAP_BIN", HELD, "PRESS_HOUSE"), "/bin/sh"
 # What a page takes beside the table: Ghostscript, and Python over the plates.
 OWN_BYTES = 300_000_000
 HEAR_SECONDS = 0.5
-
-
-class Progress(Protocol):
-    """What is told of a farm's pages."""
-
-    total: int
-    ended: set[int]
-    failed: set[int]
-
-    def warn(self, text: str) -> None:
-        """A warning of the farm's own."""
-
-    def page(self, line: str) -> None:
-        """A line of a page that is done or failed."""
-
-    def work(self, line: str) -> None:
-        """A line of a page that is at work."""
-
-    def draw(self) -> None:
-        """Time passes."""
-
-    def erase(self) -> None:
-        """No more will come."""
 
 
 @dataclass(frozen=True)
@@ -98,7 +75,7 @@ def page_memory(source: Source, settings: Settings, pages: Sequence[int]) -> int
     return most + OWN_BYTES
 
 
-def look(farm: Farm, progress: Progress) -> tuple[list[int], int]:
+def look(farm: Farm, progress: FarmLines) -> tuple[list[int], int]:
     """Checks the whole file before any page is rendered. Answers the pages, and the bytes that the largest takes."""
     with tempfile.TemporaryDirectory(prefix="press-") as scratch:
         source = open_source(farm.path, scratch, farm.settings.time)
@@ -114,7 +91,7 @@ def look(farm: Farm, progress: Progress) -> tuple[list[int], int]:
         return pages, page_memory(source, farm.settings, pages)
 
 
-def how_many(farm: Farm, need: int, pages: int, progress: Progress) -> str:
+def how_many(farm: Farm, need: int, pages: int, progress: FarmLines) -> str:
     """How many pages at once on a machine, as parallel's --jobs has it: of this one no more than there are, nor
     than there is memory for; another has its own number of processors."""
     if farm.hosts:
@@ -126,7 +103,7 @@ def how_many(farm: Farm, need: int, pages: int, progress: Progress) -> str:
     return str(min(most, fit, max(1, pages)))
 
 
-def follow(child: "subprocess.Popen[bytes]", progress: Progress) -> int:
+def follow(child: "subprocess.Popen[bytes]", progress: FarmLines) -> int:
     """Hands on what the pages print until all are done. Answers the status of parallel."""
     rest: dict[int, bytes] = {}
     with selectors.DefaultSelector() as selector:
@@ -208,7 +185,7 @@ def missing(out: str, pages: Collection[int]) -> set[int]:
     return {page for page in pages if f"page-{page:03d}" not in there}
 
 
-def lost_pages(farm: Farm, pages: Sequence[int], todo: Sequence[int], progress: Progress) -> dict[int, str]:
+def lost_pages(farm: Farm, pages: Sequence[int], todo: Sequence[int], progress: FarmLines) -> dict[int, str]:
     """The pages that were to be done, are not, and of which no line says why; each with that. That parallel
     calls a page done is not enough: its part on another machine ends well if it could begin nothing there."""
     done = logged_done(farm.out, pages) & progress.ended - progress.failed
@@ -262,7 +239,7 @@ def begin_log(farm: Farm, pages: list[int]) -> list[int]:
     return pages
 
 
-def hand_out(words: Sequence[str], commands: Iterator[str], out: str, progress: Progress) -> int:
+def hand_out(words: Sequence[str], commands: Iterator[str], out: str, progress: FarmLines) -> int:
     """Runs parallel over the pages. Answers its status."""
     usual = {"HOME": os.path.expanduser("~"), "TRAP_BIN": "", "PRESS_HOUSE": ""}
     environment = {**usual, **os.environ, HELD: os.path.realpath(out), "PARALLEL_SHELL": PAGE_SHELL}
@@ -273,7 +250,7 @@ def hand_out(words: Sequence[str], commands: Iterator[str], out: str, progress: 
             return follow(child, progress)
 
 
-def run_farm(farm: Farm, progress: Progress) -> Status:
+def run_farm(farm: Farm, progress: FarmLines) -> Status:
     """Does the pages of a file, several at once."""
     head_of(farm.path)
     tools.program("trap")

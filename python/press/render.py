@@ -58,6 +58,7 @@ def render(source: Source, page: int, settings: Settings, folder: str) -> Render
     separations = separations_in(folder, done)
     if separations is None:
         raise PressError(Status.PDF, "Ghostscript made no page of it", source.place(page))
+    os.remove(os.path.join(folder, "page.tif"))
     try:
         arrays = tuple(plane(folder, one) for one in separations)
     except (tifffile.TiffFileError, ValueError, IndexError, OSError) as fault:

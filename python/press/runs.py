@@ -5,6 +5,7 @@ import contextlib
 import multiprocessing
 import multiprocessing.connection
 import os
+import shutil
 import signal
 import tempfile
 import time
@@ -139,7 +140,9 @@ class PageWork:
             os.mkdir(folder)
             made = pages_of_source.write_page(page, self.settings, folder)
             self.write_warnings(made)
-        del page
+            # Ghostscript's planes are not needed any more.
+            del page
+            shutil.rmtree(scratch)
         with self.step("traps", "press-trap"):
             trapped = engine.trap(made, self.settings)
             self.warn("press-trap", trapped.warnings)
