@@ -25,6 +25,13 @@ LIBRARY = os.path.join(PRESS, "inks")
 # Words that a name of a swatch book begins with. Such an ink is no technical one.
 SWATCH_BOOKS = ("pantone", "pms", "hks", "toyo", "dic", "ral", "ncs", "focoltone", "trumatch", "process")
 Look = tuple[float, float, float, float]
+# What an ink is for, and the kind and density that follow where the owner gives none.
+ROLES: dict[str, tuple[str | None, str | None]] = {
+    "process": (None, None), "spot": ("Normal", None), "white": ("Normal", "0.06"), "varnish": ("Transparent", None),
+    "metallic": ("Opaque", "2.0"), "technical": ("Transparent", None)}
+ROLES_OF_KINDS = ("white", "metallic")
+# What a technical ink is called in a line.
+ROLE_NAMES = {"white": "a white", "metallic": "a metal", "varnish": "a technical ink", "technical": "a technical ink"}
 
 
 @dataclass(frozen=True)
@@ -56,7 +63,7 @@ class Ink:
 
     `name` is its name in the job, `colorant` in the PDF, `suffix` in tiffsep's file names. `density` is the
     neutral density of full ink, as the job writes it; `kind` is one of docs/JOBS.md; `look` are the process
-    inks that look like it, in per cent.
+    inks that look like it, in per cent; `role` is one of ROLES.
     """
 
     name: str
@@ -68,6 +75,7 @@ class Ink:
     has_ink: bool = True
     density_from: Origin = FROM_TABLE
     kind_from: Origin = FROM_TABLE
+    role: str = "spot"
 
     @property
     def is_process(self) -> bool:
@@ -93,6 +101,13 @@ def kind_of(text: str, what: str) -> str:
     raise UsageError(f"{what}: a kind is {', '.join(others)} or {last}, and not '{text}'")
 
 
+def role_of(text: str, what: str) -> str:
+    """What an ink is for."""
+    if text in ROLES:
+        return text
+    raise UsageError(f"{what}: a role is {', '.join(ROLES)}, and not '{text}'")
+
+
 def named_values(words: Sequence[str], read: Callable[[str, str], str], option: str) -> dict[bytes, str]:
     """NAME=VALUE words by name."""
     found = {}
@@ -111,6 +126,17 @@ class Known:
     density: str | None
     kind: str | None
     source: str
+    role: str | None = None
+    edit: tuple[str, str] | None = None
+
+    def goes_with(self, kind: str) -> bool:
+        """Whether the density counts for an ink of this kind: that of a white or a metal goes with its own kind."""
+        return self.role not in ROLES_OF_KINDS or self.kind in (kind, None)
+
+    def of_role(self) -> "Known":
+        """The kind and the density that follow from a role."""
+        kind, density = ROLES[self.role] if self.role else (None, None)
+        return Known(density, kind, f"role {self.role}, {self.source}", self.role)
 
 
 def entries_of(path: str) -> list[tuple[int, str]]:
@@ -119,17 +145,31 @@ def entries_of(path: str) -> list[tuple[int, str]]:
             if line.strip() and not line.startswith("#")]
 
 
+EDITS = ("merge", "rename", "to-process", "drop")
+TABLE_WORDS = "a role, merge=KEPT, rename=NEW, to-process or drop"
+
+
 def inks_of_file(path: str) -> dict[bytes, tuple[int, Known]]:
     """A table of inks by name: the line of each, and what is known."""
     found = {}
     for number, line in entries_of(path):
         parts = [part for part in line.split("\t") if part]
         place = f"{path}: line {number}"
-        if not 2 <= len(parts) <= 3:
+        if len(parts) < 2:
             raise UsageError(f"{place}: an ink is a name, a density and a kind, with tabs between them")
         density = None if parts[1] == "-" else density_of(parts[1], place)
-        kind = kind_of(parts[2], place) if len(parts) == 3 else None
-        found[parts[0].encode()] = number, Known(density, kind, f"{file_name(path)}, line {number}")
+        kind = kind_of(parts[2], place) if len(parts) > 2 and parts[2] != "-" else None
+        role, edit = None, None
+        for word in parts[3:]:
+            action, _, value = word.partition("=")
+            if action in EDITS and bool(value) == (action in ("merge", "rename")):
+                edit = action, value
+            elif word in ROLES:
+                role = word
+            else:
+                raise UsageError(f"{place}: after the kind comes {TABLE_WORDS}, and not '{word}'")
+        known = Known(density, kind, f"{file_name(path)}, line {number}", role, edit)
+        found[parts[0].encode()] = number, known
     return found
 
 
@@ -164,9 +204,10 @@ class Shelf:
     def __init__(self, name: str) -> None:
         self.entries = []
         for number, line in entries_of(os.path.join(LIBRARY, name)):
-            pattern, density, kind, source, *_ = line.split("\t")
+            pattern, density, kind, source, *rest = line.split("\t")
+            role = rest[0] if rest and rest[0] in ROLES else "metallic" if kind == "Opaque" else None
             known = Known(None if density == "-" else density, None if kind == "-" else kind,
-                          f"press/inks/{name}, line {number}: {source}")
+                          f"press/inks/{name}, line {number}: {source}", role)
             self.entries.append((pattern.casefold(), known))
 
     def whole(self, name: bytes) -> Known | None:
@@ -189,6 +230,13 @@ class Shelf:
                 if all(fits(word, part) for word, part in zip(words[at:], parts)):
                     return known
         return None
+
+
+def usual_role(name: str, kind: str) -> str:
+    """What an ink is for if nobody says it."""
+    if name in PROCESS:
+        return "process"
+    return "spot" if tables.counts(kind) else "technical"
 
 
 def guess(look: Look) -> str:
@@ -215,6 +263,7 @@ class InkBook:
         self.of_table = inks_of_file(self.table) if self.table else {}
         self.densities = named_values(self.settings.density, density_of, "--density")
         self.kinds = named_values(self.settings.kind, kind_of, "--kind")
+        self.roles = named_values(self.settings.role, role_of, "--role")
         house = house_file("house.inks")
         self.house = inks_of_file(house) if house else {}
         self.technical, self.spots, self.process = Shelf("technical.inks"), Shelf("spots.inks"), Shelf("process.inks")
@@ -229,19 +278,29 @@ class InkBook:
     def ink(self, one: Separation, has_ink: bool = True) -> Ink:
         """The ink of a separation."""
         spellings = self.meet(one.colorant, one.name)
-        told = [Known(self.densities.get(key), self.kinds.get(key), "the command line") for key in spellings]
+        told = [Known(self.densities.get(key), self.kinds.get(key), "the command line", self.roles.get(key))
+                for key in spellings]
         told += [self.of_table[key][1] for key in spellings if key in self.of_table]
+        told += [known.of_role() for known in told if known.role]
         house = [self.house[key][1] for key in spellings if key in self.house]
+        house += [known.of_role() for known in house if known.role]
         process = self.process.whole(one.colorant) if one.name in PROCESS else None
         technical = None if process else self.technical.within(one.colorant)
         spot = None if process else self.spots.whole(one.colorant)
         ranks: list[tuple[str, Sequence[Known | None]]] = [
             ("told", told), ("house", house), ("library", [process]), ("name", [technical]), ("library", [spot])]
         look = one.look or UNKNOWN_LOOK
-        density, density_from = first_of(ranks, "density") or \
-            (guess(look), Origin("guess", "the process inks that look like it"))
         kind, kind_from = first_of(ranks, "kind") or ("Normal", Origin("default", "nobody told a kind"))
-        return Ink(one.name, one.colorant, one.suffix, density, kind, look, has_ink, density_from, kind_from)
+        fitting = [(rank, [known for known in several if known and known.goes_with(kind)]) for rank, several in ranks]
+        density, density_from = first_of(fitting, "density") or \
+            (guess(look), Origin("guess", "the process inks that look like it"))
+        role, _ = first_of(ranks, "role") or (usual_role(one.name, kind), None)
+        return Ink(one.name, one.colorant, one.suffix, density, kind, look, has_ink, density_from, kind_from, role)
+
+    def edits(self) -> list[tuple[str, bytes, bytes]]:
+        """What tables say of plates: the action, the ink, and its new name or that of the ink that is kept."""
+        return [(known.edit[0], name, known.edit[1].encode()) for table in (self.of_table, self.house)
+                for name, (_, known) in table.items() if known.edit]
 
     def is_technical(self, ink: Ink) -> bool:
         """Whether an ink is technical, by its name or its kind."""
@@ -250,7 +309,7 @@ class InkBook:
     def strangers(self) -> Iterator[tuple[str, str | None]]:
         """What was given for inks that were not met: a line for each, and the table that has it, or None for
         the command line."""
-        for key in sorted(set(self.densities) | set(self.kinds)):
+        for key in sorted({*self.densities, *self.kinds, *self.roles}):
             if key not in self.met:
                 yield f"no colorant of the page is called {readable(key)}", None
         for key, (number, _) in self.of_table.items():
@@ -277,8 +336,10 @@ def unsure_lines(ink: Ink) -> Iterator[tuple[str, str, str]]:
     # Where the name cannot be typed, the job's spelling stands for it.
     word = shlex.quote((shown if shown.encode() == ink.colorant else ink.name) + "=KIND")
     if ink.kind_from.rank == "name":
-        yield "ink-kind", "warning", (f"{shown} is a technical ink by its name, and is taken as {ink.kind} "
-                                      f"({ink.kind_from.text}): say --kind {word}, or a line of --inks")
+        with_density = f" with a density of {ink.density}" if ink.role in ROLES_OF_KINDS else ""
+        yield "ink-kind", "warning", (f"{shown} is {ROLE_NAMES.get(ink.role, 'a technical ink')} by its name, and is "
+                                      f"taken as {ink.kind}{with_density} ({ink.kind_from.text}): say --kind {word}, "
+                                      f"or a line of --inks")
     elif ink.kind_from.rank == "library" and ink.kind != "Normal":
         yield "ink-kind", "warning", f"{shown} is taken as {ink.kind} ({ink.kind_from.text}): say --kind {word}"
     if not ink.is_process and process_meant(ink.colorant):
