@@ -38,11 +38,12 @@ def test_images_are_left_out(room: Room, built: None, name: str) -> None:
 
 @needs("mutool")
 def test_zone_of_the_owner_stays(room: Room, built: None) -> None:
-    """A zone of the owner's stays as it is, but for the image."""
+    """A zone of the owner's adds to the page, but not within the image; --only-zones leaves the page out."""
     room.sample("photo.pdf")
     room.write("own.zones", OWN_ZONE)
-    room.goes("plates", "photo.pdf", "photo", "--zones", "own.zones")
-    room.goes("trap", "photo")
-    assert changed_in(room / "photo", 51, 42, 398, 316) == 0
-    assert changed_in(room / "photo", *BESIDE["photo"]) == 0
-    assert changed_in(room / "photo", 0, 0, 500, 400) > 0
+    for name, options in (("photo", ()), ("only", ("--only-zones",))):
+        room.goes("plates", "photo.pdf", name, "--zones", "own.zones", *options)
+        room.goes("trap", name)
+        assert changed_in(room / name, 51, 42, 398, 316) == 0
+        assert (changed_in(room / name, *BESIDE["photo"]) > 0) == (not options)
+        assert changed_in(room / name, 0, 0, 500, 400) > 0

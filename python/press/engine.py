@@ -15,7 +15,7 @@ from typing import Any
 from . import tools
 from .errors import PressError, Status
 from .files import folder_beside, link_or_copy, need_room, put_folder
-from .folder import CHECK, JOB, JSON, REPORT, TRAPPED, PageFolder
+from .folder import CHECK, JOB, JSON, REPORT, TRAPPED, ZONES, PageFolder
 from .inks import Ink
 from .job import Job, file_place, job_place
 from .names import readable
@@ -205,6 +205,8 @@ def write_json(page: PageFolder, report: Report, made: str) -> None:
     with contextlib.suppress(FileNotFoundError), open(os.path.join(made, CHECK), encoding="utf-8") as file:
         counted = dict(line.split() for line in file if len(line.split()) == 2)
         text["check"] = {key: int(counted[key]) for key in ("radius", "before", "after") if key in counted}
+    with contextlib.suppress(FileNotFoundError), open(page.file(ZONES), encoding="utf-8") as file:
+        text["layout"] = json.load(file)
     with open(os.path.join(made, JSON), "w", encoding="utf-8") as file:
         json.dump(text, file, indent=1)
         file.write("\n")

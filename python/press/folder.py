@@ -14,6 +14,7 @@ from .names import from_table, table_name
 from .plates import Head, Plates
 
 TABLE, JOB, TRAPPED, REPORT, CHECK, JSON = "colorants.txt", "page.job", "trapped", "report", "check", "report.json"
+ZONES = "zones.json"
 TIFF, WARNINGS, WHY, PART, SHEET = "tiff", "warnings.txt", "why", "proof.part", "proof.html"
 NO_PLATES = "no plates here (press/plates makes such a folder)"
 TABLE_HEAD = """\

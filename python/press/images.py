@@ -7,44 +7,15 @@ of one bit are line work and no images here, and so is an image of fewer than 64
 """
 from collections.abc import Sequence
 from dataclasses import dataclass
-from typing import NamedTuple
 
+from .rects import NOTHING, Polygon, Rect, around, rect_of
 from .source import PageInfo
-from .trace import Image, Polygon
+from .trace import Image
 
 TOUCH, MOST_RECTS = 0.05, 3000
 LEAST_SLICE, MOST_SLICES, MOST_CROSSINGS = 1.0, 200, 200_000
-SAME, STRAIGHT = 3, 0.002
 Span = tuple[float, float]
 EVERYWHERE: list[Span] = [(float("-inf"), float("inf"))]
-
-
-class Rect(NamedTuple):
-    """A rectangle, in points."""
-
-    left: float
-    lower: float
-    right: float
-    upper: float
-
-    @property
-    def area(self) -> float:
-        """Its area, in square points."""
-        return (self.right - self.left) * (self.upper - self.lower)
-
-    def common(self, other: "Rect") -> "Rect":
-        """What it has in common with another; NOTHING where that is nothing."""
-        both = Rect(max(self.left, other.left), max(self.lower, other.lower), min(self.right, other.right),
-                    min(self.upper, other.upper))
-        return both if both.left < both.right and both.lower < both.upper else NOTHING
-
-    def drawn_in(self, margin: float) -> "Rect":
-        """The rectangle without a strip along its border."""
-        small = Rect(self.left + margin, self.lower + margin, self.right - margin, self.upper - margin)
-        return small if small.left < small.right and small.lower < small.upper else NOTHING
-
-
-NOTHING = Rect(0, 0, 0, 0)
 
 
 @dataclass(frozen=True)
@@ -53,22 +24,6 @@ class Places:
 
     places: list[Rect]
     bounds: list[Rect]
-
-
-def rect_of(points: Polygon) -> Rect | None:
-    """The rectangle that a polygon is, or None where it is another shape."""
-    xs, ys = sorted({round(x, SAME) for x, _ in points}), sorted({round(y, SAME) for _, y in points})
-    if len(xs) != 2 or len(ys) != 2:
-        return None
-    sides = zip(points, points[1:] + points[:1])
-    is_upright = all(abs(a[0] - b[0]) < STRAIGHT or abs(a[1] - b[1]) < STRAIGHT for a, b in sides)
-    return Rect(xs[0], ys[0], xs[1], ys[1]) if is_upright else None
-
-
-def around(points: Polygon) -> Rect:
-    """The rectangle around a polygon."""
-    xs, ys = [x for x, _ in points], [y for _, y in points]
-    return Rect(min(xs), min(ys), max(xs), max(ys))
 
 
 def joined(rects: Sequence[Rect]) -> list[Rect]:
@@ -158,6 +113,17 @@ def places_of(images: Sequence[Image], margin: float) -> tuple[list[Rect], list[
     for shape in shapes:
         places += sliced(shape, margin)
     return [place for place in places if place != NOTHING], [one for one in bounds if one != NOTHING]
+
+
+def ordered_bounds(images: Sequence[Image]) -> list[tuple[int, Rect]]:
+    """The rectangles around images, as far as their clips leave them, each with its place in the order of painting."""
+    found = []
+    for image in images:
+        whole = around(image.corners)
+        for clip in image.clips:
+            whole = whole.common(around([point for points in clip for point in points]))
+        found.append((image.order, whole))
+    return [(order, whole) for order, whole in found if whole != NOTHING]
 
 
 def moved_to_page(rects: Sequence[Rect], info: PageInfo, box: str) -> list[Rect]:

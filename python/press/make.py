@@ -12,9 +12,10 @@ from .files import folder_beside, head_of, put_folder
 from .findings import WARNING, Finding, refusal_for
 from .folder import TABLE, PageFolder, PageSource
 from .inks import InkBook, Separation, open_book, unsure_lines
+from .layout import lay_out
 from .names import MOST_PLATES, PROCESS, job_names
-from .page import Page, prepare, write_folder, write_page
-from .plates import is_blank, write_pgm
+from .page import Page, layout_of, prepare, write_folder, write_page
+from .plates import is_blank, read_plates, write_pgm
 from .settings import Settings
 from .source import open_source
 
@@ -67,8 +68,10 @@ def make_page(path: str, folder: str, number: int = 1, settings: Settings = Sett
         report(path, preflight.check_file(source, settings, book, [number]), observer)
         page = prepare(source, number, settings, book, scratch)
         report(path, preflight.ghostscript_findings(page), observer)
-        write_page(page, settings, made)
+        layout = layout_of(page, settings)
+        write_page(page, settings, made, layout)
         report(path, findings_of_inks(page, book), observer)
+        report(path, layout.findings(number, settings.dpi), observer)
         shutil.rmtree(scratch)
         put_folder(made, folder)
     return PageFolder.read(folder)
@@ -127,9 +130,12 @@ def make_of_tiffs(given: TiffPlates, folder: str, settings: Settings = Settings(
             array, maxval = tiff.read_separation(file, given.inverted), (1 << file.bits) - 1
             write_pgm(os.path.join(made, one.name + ".pgm"), array, maxval)
             inks.append(book.ink(one, not is_blank(array, maxval)))
-        write_folder(made, PageSource(given.title, 1, settings.dpi), tuple(inks), own)
+        plates = read_plates({ink.name: os.path.join(made, ink.name + ".pgm") for ink in inks}, settings.dpi)
+        layout = lay_out(own, None, None, plates, inks, settings)
+        write_folder(made, PageSource(given.title, 1, settings.dpi), tuple(inks), layout)
         found = [Finding(kind, level, None, text) for ink in inks for kind, level, text in unsure_lines(ink)]
         found += [Finding("inks-line", WARNING, None, line) for line, table in book.strangers() if table is None]
+        found += layout.findings(None, settings.dpi)
         report(folder, found, observer)
         put_folder(made, folder)
     return PageFolder.read(folder)

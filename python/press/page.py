@@ -1,14 +1,15 @@
 # SPDX-License-Identifier: Apache-2.0
 """One page from a source: what is known of it once it is rendered, and the folder that is made of that."""
 import os
-from collections.abc import Sequence
 from dataclasses import dataclass
 
-from . import images, job, zones
-from .errors import PressError
+from . import job
+from .errors import PressError, UsageError
 from .files import size_text
-from .folder import JOB, PageFolder, PageSource, write_table
+from .folder import JOB, ZONES, PageFolder, PageSource, write_table
+from .inkedits import InkEdits, edit_plates, pairs_of
 from .inks import Ink, InkBook
+from .layout import Layout, lay_out
 from .plates import write_pgm
 from .render import Rendering, render
 from .settings import Settings
@@ -41,11 +42,12 @@ class Page:
 def prepare(source: Source, number: int, settings: Settings, book: InkBook, scratch: str) -> Page:
     """Renders a page in a scratch folder, and looks at what it paints."""
     info = source.page(number)
-    rendering = render(source, number, settings, scratch)
+    rendering = edit_plates(render(source, number, settings, scratch), edits_of(settings, book), scratch,
+                            source.place(number))
     has_ink = rendering.plates.has_ink()
     inks = tuple(book.ink(one, inked) for one, inked in zip(rendering.separations, has_ink))
     trace, untraced = None, None
-    if info and not settings.trap_images:
+    if info and (settings.layer or not settings.trap_images):
         try:
             trace = trace_page(source, number, settings.time)
             untraced = None if trace else UNREAD
@@ -54,30 +56,36 @@ def prepare(source: Source, number: int, settings: Settings, book: InkBook, scra
     return Page(source, number, info, rendering, inks, trace, untraced)
 
 
-def statements_of(page: Page, settings: Settings) -> list[job.Statement]:
-    """What stands in the page's job before showpage: what the owner sets, and then the press room's own zones."""
+def edits_of(settings: Settings, book: InkBook) -> InkEdits:
+    """What options and tables say of plates."""
+    def of(action: str) -> list[tuple[bytes, bytes]]:
+        return [(name, value) for one, name, value in book.edits() if one == action]
+    return InkEdits({**dict(of("merge")), **pairs_of(settings.merge, "--merge", UsageError)},
+                    {**dict(of("rename")), **pairs_of(settings.rename, "--rename", UsageError)},
+                    frozenset([*map(os.fsencode, settings.to_process), *(name for name, _ in of("to-process"))]),
+                    frozenset([*map(os.fsencode, settings.drop), *(name for name, _ in of("drop"))]),
+                    settings.merge_suffixes)
+
+
+def layout_of(page: Page, settings: Settings) -> Layout:
+    """What stands in the page's job before showpage: what the owner sets, and the press room's own zones."""
     own = job.own_statements(settings, page.source.path, page.number)
-    if page.info is None or page.trace is None:
-        return own
-    reading = job.read_all(own)
-    margin = zones.reach(reading, settings.dpi)
-    places = images.image_places(page.trace.images, page.info, settings.box, margin)
-    return own + zones.compose(zones.image_zone(places), reading, page.info.size(settings.box))
+    return lay_out(own, page.info, page.trace, page.rendering.plates, page.inks, settings)
 
 
-def write_page(page: Page, settings: Settings, folder: str) -> PageFolder:
-    """Writes the plates, the job and the table of a page into a folder that is there."""
+def write_page(page: Page, settings: Settings, folder: str, layout: Layout | None = None) -> PageFolder:
+    """Writes the plates, the job, the layout and the table of a page into a folder that is there."""
     for name, array in zip(page.rendering.plates.names, page.rendering.plates.arrays):
         write_pgm(os.path.join(folder, name + ".pgm"), array, page.rendering.plates.maxval)
     source = PageSource(os.fsencode(os.path.basename(page.source.path)), page.number, settings.dpi)
-    return write_folder(folder, source, page.inks, statements_of(page, settings))
+    return write_folder(folder, source, page.inks, layout or layout_of(page, settings))
 
 
-def write_folder(folder: str, source: PageSource, inks: tuple[Ink, ...],
-                 statements: Sequence[job.Statement]) -> PageFolder:
-    """Writes the job and the table of a page whose plates stand in the folder."""
+def write_folder(folder: str, source: PageSource, inks: tuple[Ink, ...], layout: Layout) -> PageFolder:
+    """Writes the job, the layout and the table of a page whose plates stand in the folder."""
     with open(os.path.join(folder, JOB), "wb") as file:
-        file.write(job.write_job(source, inks, statements).text)
+        file.write(job.write_job(source, inks, layout.statements).text)
+    layout.write(os.path.join(folder, ZONES))
     write_table(folder, source, inks)
     return PageFolder.read(folder)
 

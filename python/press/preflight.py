@@ -15,9 +15,11 @@ from .errors import PressError, Status
 from .files import BYTE_ORDER_MARK, bytes_of, free_room, size_text
 from .findings import FAULT, NOTE, WARNING, Finding
 from .folder import PageSource
+from .inkedits import twins
 from .inks import Ink, InkBook, Separation, folded, unsure_lines
+from .layout import box_line, layer_lines
 from .names import MOST_PLATES, PROCESS, job_names, readable
-from .page import Page, prepare, room_line
+from .page import Page, layout_of, prepare, room_line
 from .plates import LONGEST_SHEET_SIDE, LONGEST_SIDE, MOST_SAMPLES, Array, Plates, fits_page
 from .settings import Settings
 from .source import BOX_NAMES, PageInfo, Source, is_empty, lacks_box, open_source
@@ -281,12 +283,14 @@ def check_page(page: Page, settings: Settings, book: InkBook, place: str | None 
     found += [size] if size else []
     found += room_findings(needs, place)
     found += image_findings(page, page.info, settings)
+    found += layout_findings(page, page.info, settings)
     return PageReport(tuple(dict.fromkeys(found)), needs)
 
 
 def merged(findings: Sequence[Finding], source: Source, page: int, report: PageReport,
            settings: Settings) -> list[Finding]:
-    """The findings of a file with those of a page, whose size is checked anew once it is known which plates have ink."""
+    """The findings of a file with those of a page, whose size is checked anew once it is known which plates have
+    ink."""
     info = source.page(page)
     early = size_finding(info, settings, page, 1) if info and report.needs else None
     return list(dict.fromkeys([one for one in findings if one != early] + list(report.findings)))
@@ -307,6 +311,7 @@ def ink_findings(page: Page, book: InkBook) -> Iterator[Finding]:
     if not inked:
         yield Finding("blank", NOTE, page.number, "the page is blank: no plate has ink")
     yield from spelling_findings(page)
+    yield from twin_findings(page)
     for ink in page.inks:
         for kind, level, line in unsure_lines(ink):
             yield Finding(kind, level, page.number, line)
@@ -324,6 +329,14 @@ def spelling_findings(page: Page) -> Iterator[Finding]:
             if folded(one) and folded(one) == folded(other):
                 yield Finding("ink-twice", WARNING, page.number, f"{readable(other)} and {readable(one)} are two "
                               f"plates, and may be one ink in two spellings")
+
+
+def twin_findings(page: Page) -> Iterator[Finding]:
+    """Swatches of one number with other letters for the paper, which are one ink."""
+    for kept, other in twins(page.rendering.separations):
+        if folded(kept) != folded(other):
+            yield Finding("ink-twice", WARNING, page.number, f"{readable(kept)} and {readable(other)} are two plates, "
+                          f"and are one ink (--merge-suffixes, or --merge)")
 
 
 def knock_out_finding(ink: Ink, page: int) -> Finding:
@@ -402,5 +415,16 @@ def image_findings(page: Page, info: PageInfo, settings: Settings) -> Iterator[F
         width, height = info.size(settings.box)
         largest = max(one.area for one in bounds) / width / height
         count = "an image" if len(bounds) == 1 else f"{len(bounds)} images, the largest"
+        above = "line work that lies over them neither"
+        above = "but at type and line work above them" if settings.over_images else above
         yield Finding("images", NOTE, page.number, f"{count} over {100 * largest:.0f}% of the page: within images "
-                      f"nothing is trapped, line work that lies over them neither (--trap-images traps there)")
+                      f"nothing is trapped, {above} (--trap-images traps there)")
+
+
+def layout_findings(page: Page, info: PageInfo, settings: Settings) -> Iterator[Finding]:
+    """How much of a page is not trapped, and why; boxes and layers of the options that it does not have."""
+    lines = [box_line(info, settings), *(layer_lines(page.trace, settings) if page.trace else ())]
+    yield from (Finding("trap-within", WARNING, page.number, line) for line in lines if line)
+    line = layout_of(page, settings.but(thin_zones=False)).untrapped_line()
+    if line:
+        yield Finding("not-trapped", NOTE, page.number, line)

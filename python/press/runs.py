@@ -138,7 +138,11 @@ class PageWork:
             page = self.look(scratch)
         with self.step("plates", "press-plates"):
             os.mkdir(folder)
-            made = pages_of_source.write_page(page, self.settings, folder)
+            layout = pages_of_source.layout_of(page, self.settings)
+            made = pages_of_source.write_page(page, self.settings, folder, layout)
+            for one in layout.findings(self.number, self.settings.dpi):
+                self.found.append(one)
+                self.observer(FindingMade(one))
             self.write_warnings(made)
             # Ghostscript's planes are not needed any more.
             del page

@@ -175,10 +175,21 @@ class Settings:
     # Inks: NAME=DENSITY and NAME=KIND as given, and a table of inks.
     density: tuple[str, ...] = ()
     kind: tuple[str, ...] = ()
+    role: tuple[str, ...] = ()
+    merge: tuple[str, ...] = ()
+    rename: tuple[str, ...] = ()
+    to_process: tuple[str, ...] = ()
+    drop: tuple[str, ...] = ()
+    merge_suffixes: bool = False
     inks: str | None = None
     # Zones and parameters.
     zones: str | None = None
     trap_images: bool = False
+    over_images: bool = True
+    trap_within: str | None = None
+    only_zones: bool = False
+    thin_zones: bool = True
+    layer: tuple[str, ...] = ()
     parameters: Mapping[str, Value] = field(default_factory=dict)
     # The engine: threads, rows of a band, and the radius of presscheck in samples.
     workers: int | None = None
@@ -226,6 +237,7 @@ def add_page_options(parser: argparse.ArgumentParser) -> None:
     add("-k", "--kind", metavar="NAME=KIND", action="append",
         help='how a colorant is trapped, by a kind of trap-job(5): "Transparent" for a varnish, say, or "OpaqueIgnore" '
              'for a foil')
+    add_ink_options(parser)
     add("-i", "--inks", metavar="FILE",
         help='a table of inks: in each line a name, a density, and a kind, with tabs between them; "-" leaves a '
              'density open, and a kind may be left out')
@@ -246,7 +258,48 @@ def add_page_options(parser: argparse.ArgumentParser) -> None:
     add("--scale", metavar="S", help="how much of the added ink a trap keeps: 1 or 100%%")
     add("--trap-images", action="store_true", default=None,
         help="traps within images too; where it is left out, their places become zones that are not enabled")
+    add_zone_options(parser)
     add_time_option(parser)
+
+
+def add_ink_options(parser: argparse.ArgumentParser) -> None:
+    """The options of what inks are for, and of what becomes of their plates."""
+    add = parser.add_argument
+    add("--role", metavar="NAME=ROLE", action="append",
+        help="what a colorant is for: process, spot, white, varnish, metallic or technical; its kind and density "
+             "follow where they are not given")
+    add("--merge", metavar="OLD=KEPT", action="append", help="prints one spot with the plate of another")
+    add("--merge-suffixes", action="store_true", default=None,
+        help="prints swatches of one number with one plate, PANTONE 485 C and PANTONE 485 CVC say")
+    add("--to-process", metavar="NAME", action="append",
+        help="prints a spot with the process inks that the PDF gives for it")
+    add("--drop", metavar="NAME", action="append", help="leaves the plate of a spot out")
+    add("--rename", metavar="OLD=NEW", action="append", help="gives the plate of a spot another name")
+
+
+def add_zone_options(parser: argparse.ArgumentParser) -> None:
+    """The options of where traps may be."""
+    add = parser.add_argument
+    add("--no-traps-over-images", dest="over_images", action="store_false", default=None,
+        help="traps no type and line work above images either")
+    add("--trap-within", metavar="BOX", type=within_of,
+        help='keeps traps within the page\'s "bleed" or "trim" box, or allows them everywhere with "media". Where '
+             'it is left out, the bleed box if it lies inside the media box, else the trim box if there is one')
+    add("--only-zones", action="store_true", default=None,
+        help="traps nothing outside the zones of the zones file; where it is left out, they are added to the page")
+    add("--no-thin-zones", dest="thin_zones", action="store_false", default=None,
+        help="gives small type and thin lines the trap width of the page; where it is left out, they get a third of "
+             "their own thickness")
+    add("--layer", metavar="NAME=..", action="append",
+        help="parameters where a layer paints: NAME=off, or NAME=KEY=VALUE[,KEY=VALUE] with the keys of trap-job(5), "
+             '"White=Enabled=false" say')
+
+
+def within_of(text: str) -> str:
+    """The name of a box that traps may be kept in."""
+    if text not in ("bleed", "trim", "media"):
+        raise UsageError(f"--trap-within is bleed, trim or media, and not '{text}'")
+    return text
 
 
 def box_of(text: str) -> str:

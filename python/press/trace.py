@@ -1,7 +1,8 @@
 # SPDX-License-Identifier: Apache-2.0
-"""What a page paints, by mutool's trace of it: its images, each with the paths that clip it. Coordinates are in
-points; the origin is the upper left corner of the crop box, and y runs down.
+"""What a page paints, by mutool's trace of it: its images, each with the paths that clip it, and its type and line
+work. Coordinates are in points; the origin is the upper left corner of the crop box, and y runs down.
 """
+import math
 import subprocess
 import threading
 from dataclasses import dataclass, field
@@ -9,13 +10,14 @@ from dataclasses import dataclass, field
 from lxml import etree
 
 from . import tools
+from .marks import MOST_BOXES, Mark, glyph_corners, grown, outline_of
+from .rects import NOTHING, Point, Polygon, Rect, around
 from .source import Source
 
-Point = tuple[float, float]
-Polygon = list[Point]
 Matrix = tuple[float, float, float, float, float, float]
 IDENTITY: Matrix = (1.0, 0.0, 0.0, 1.0, 0.0, 0.0)
 LEAST_SAMPLES, CURVE_STEPS = 64, 8
+EVERYTHING = Rect(-1e9, -1e9, 1e9, 1e9)
 # How long mutool may be at a page if no limit is given.
 USUAL_SECONDS = 600
 CHUNK = 1 << 16
@@ -27,6 +29,7 @@ class Image:
 
     corners: Polygon
     clips: list[list[Polygon]]
+    order: int = 0
 
 
 @dataclass
@@ -39,6 +42,13 @@ class Trace:
     path: list[Polygon] | None = None
     matrix: Matrix = IDENTITY
     tiles: list[Polygon] = field(default_factory=list)
+    marks: list[Mark] = field(default_factory=list)
+    boxes: int = 0
+    layers: list[str] = field(default_factory=list)
+    painted: dict[str, list[Rect]] = field(default_factory=dict)
+    order: int = 0
+    half_width: float = 0.0
+    trm: list[float] = field(default_factory=list)
 
     def start(self, tag: str, values: dict[str, str]) -> None:
         """An element begins."""
@@ -47,6 +57,26 @@ class Trace:
                 self.add_point(tag, values)
         elif tag == "tile":
             self.tiles.append(tile_of(values))
+            if len(self.tiles) == 1:
+                self.add_mark([self.tiles[0]], True, 0.0)
+        elif tag == "layer":
+            self.layers.append(values.get("name", ""))
+        elif tag == "end_layer":
+            del self.layers[-1:]
+        elif tag in ("fill_path", "stroke_path"):
+            self.path, self.matrix = [], matrix_of(values)
+            a, b, c, d, *_ = self.matrix
+            scale = math.sqrt(abs(a * d - b * c))
+            self.half_width = float(values.get("linewidth", 0)) / 2 * scale if tag == "stroke_path" else 0.0
+        elif tag in ("fill_text", "stroke_text"):
+            self.matrix = matrix_of(values)
+        elif tag == "span":
+            self.trm = [float(part) for part in values.get("trm", "").split()]
+        elif tag == "g" and len(self.trm) == 4:
+            corners = glyph_corners(float(values["x"]), float(values["y"]), float(values.get("adv", 0.6)), self.trm)
+            self.add_mark([[mapped(self.matrix, x, y) for x, y in corners]], True, 0.0)
+        elif tag == "fill_image_mask":
+            self.add_mark([corners_of(matrix_of(values), 0, 0, 1, 1)], True, 0.0)
         elif tag.startswith("clip_"):
             # Polygons of a clip by a path are kept; any other, of text or of a mask, cuts nothing away here.
             self.clips.append([])
@@ -69,6 +99,12 @@ class Trace:
         elif tag == "clip_path" and self.path is not None and self.clips:
             self.clips[-1] = [points for points in self.path if len(points) > 2]
             self.path = None
+        elif tag in ("fill_path", "stroke_path") and self.path is not None:
+            if not self.tiles:
+                self.add_mark([points for points in self.path if points], tag == "fill_path", self.half_width)
+            self.path = None
+        elif tag in ("fill_text", "stroke_text"):
+            self.trm = []
 
     def close(self) -> "Trace":
         """The trace is complete."""
@@ -89,13 +125,43 @@ class Trace:
         else:
             points.append(mapped(self.matrix, float(values["x"]), float(values["y"])))
 
+    def add_mark(self, polygons: list[Polygon], closed: bool, half_width: float) -> None:
+        """Something that is painted, as far as the clips let it show."""
+        if self.masks or not polygons:
+            return
+        clip = self.clip_box()
+        box = grown(around([point for points in polygons for point in points]), half_width).common(clip)
+        if box == NOTHING:
+            return
+        self.order += 1
+        self.note_layers(box)
+        if self.boxes < MOST_BOXES:
+            outline = [one.common(clip) for one in outline_of(polygons, closed, half_width)]
+            self.boxes += len(outline)
+            self.marks.append(Mark(self.order, box, tuple(one for one in outline if one != NOTHING)))
+
+    def clip_box(self) -> Rect:
+        """The rectangle around what the clips leave."""
+        box = EVERYTHING
+        for clip in self.clips:
+            if clip:
+                box = box.common(around([point for points in clip for point in points]))
+        return box
+
+    def note_layers(self, box: Rect) -> None:
+        """What is painted belongs to the layers that it stands in."""
+        for name in self.layers:
+            self.painted.setdefault(name, []).append(box)
+
     def add_image(self, values: dict[str, str]) -> None:
         """An image that is no line work. A pattern with an image in it is image as far as it goes."""
         if int(values.get("width", 0)) * int(values.get("height", 0)) < LEAST_SAMPLES:
             return
         corners = self.tiles[0] if self.tiles else corners_of(matrix_of(values), 0, 0, 1, 1)
         if not self.images or self.images[-1].corners != corners:
-            self.images.append(Image(corners, [clip for clip in self.clips if clip]))
+            self.order += 1
+            self.images.append(Image(corners, [clip for clip in self.clips if clip], self.order))
+            self.note_layers(around(corners).common(self.clip_box()))
 
 
 def matrix_of(values: dict[str, str]) -> Matrix:

@@ -1,27 +1,84 @@
 # SPDX-License-Identifier: Apache-2.0
-"""The zones that the press room adds to a job: the one place that orders, cuts and joins them, and counts the
-limits of a job."""
-from collections.abc import Sequence
-from dataclasses import dataclass
+"""The zones of a job: the one place that orders, cuts and joins them, and counts the limits of a job.
 
-from .images import Places, Rect
-from .job import Reading, Statement, ZoneParameters
+A later zone takes precedence over an earlier one. The order is: the page, cut to where traps may be; layers; the
+owner's zones; thin strokes, never wider than the zone below them and never where that is not enabled; images, without
+what is drawn above them.
+"""
+from __future__ import annotations
+
+from collections.abc import Iterator, Mapping, Sequence
+from dataclasses import dataclass, field, fields, replace
+
+from .rects import NOTHING, Rect
+from .job import Reading, Statement, ZoneParameters, decimal, read
+from .job_language import KEYS, SCALE, JobSyntaxError, JobZone, Parameters, read_job
+from .regions import Shape, disjoint, fewer, shape_of, split_by
 
 # The limits of a job (docs/JOBS.md), and how many corners a rectangle takes.
 MOST_ZONES, MOST_OF_PATH, MOST_VERTICES = 250, 4096, 16_384
 CORNERS = 4
 RECTS_OF_ZONE = 1000
+# What a page's own zone is drawn beyond the page, so that no sample of its border is left out.
+BEYOND = 1.0
+# A grid of so many points on a side measures how much of the page is not trapped.
+GRID = 200
+LIMITS = "since the limits of a job are reached (docs/JOBS.md)"
+OWNER, LAYERS, TRIM, IMAGES = "owner", "layers", "trim", "images"
 
 
 @dataclass(frozen=True)
-class Zone:
-    """A part of a page with parameters of its own: its rectangles in points from the lower left corner of the
-    page as it is drawn, the entries for settrapparams as the job writes them, and the reason, which becomes a
-    comment."""
+class Layer:
+    """A layer with parameters of its own: its name, where it paints, and entries of settrapparams."""
 
-    path: tuple[Rect, ...]
-    parameters: tuple[tuple[str, str], ...]
+    name: str
+    places: tuple[Rect, ...]
+    entries: Mapping[str, float | bool]
+
+
+@dataclass(frozen=True)
+class Wanted:
+    """What the press room's zones are made of, beside what the owner wrote. Rectangles are in points.
+
+    `within` is where traps may be, None being the whole page; `box` is the name of that box. `thin` has the places of
+    thin strokes by the width of their traps in points, 0 for no trap. `images` are the places in which nothing is
+    trapped, `above` what is drawn over them. With `only_zones` the owner's zones alone are trapped.
+    """
+
+    size: tuple[float, float]
+    within: Rect | None = None
+    box: str = "media"
+    layers: tuple[Layer, ...] = ()
+    thin: Mapping[float, Sequence[Rect]] = field(default_factory=dict)
+    images: tuple[Rect, ...] = ()
+    above: tuple[Rect, ...] = ()
+    only_zones: bool = False
+
+    @property
+    def page(self) -> Rect:
+        """The page as it is drawn."""
+        return Rect(0, 0, *self.size)
+
+
+@dataclass(frozen=True)
+class Piece:
+    """A zone of the press room as data: its shape, what holds in it, and why it is there."""
+
+    shape: Shape
+    parameters: Parameters
+    limits: Mapping[str, int]
     reason: str
+
+
+@dataclass(frozen=True)
+class Composed:
+    """All statements of a page, the owner's among them; what had to be given up; how many zones are of thin strokes;
+    and the share of the page that is not trapped, by reason."""
+
+    statements: list[Statement]
+    warnings: list[str]
+    thin_zones: int
+    untrapped: dict[str, float]
 
 
 def reach(reading: Reading, dpi: int) -> float:
@@ -30,31 +87,283 @@ def reach(reading: Reading, dpi: int) -> float:
     return max(zone.width * max(zone.black, 1) for zone in zones) + 72 / dpi
 
 
-def image_zone(places: Places) -> list[Zone]:
-    """The zone that keeps traps out of images."""
-    reason = "Within images nothing is trapped (--trap-images traps there too):"
-    return [Zone(tuple(places.places), (("Enabled", "false"),), reason)] if places.places else []
+def compose(own: Sequence[Statement], wanted: Wanted) -> Composed:
+    """The statements of a page. Those of the owner that are no valid job stay as they are: the program refuses them."""
+    try:
+        return Composer(own, wanted).composed()
+    except (JobSyntaxError, RecursionError):
+        return Composed(list(own), [], 0, {})
 
 
-def compose(zones: Sequence[Zone], reading: Reading, size: tuple[float, float]) -> list[Statement]:
-    """The statements of zones, which lie over those of the owner; where the owner makes none, over one of the
-    whole page. A later zone takes precedence over an earlier one. `size` is the page's, in points."""
-    if not zones:
-        return []
-    lines = []
-    if not reading.made:
-        width, height = (f"{side + 1:.4g}" for side in size)
-        lines += ["% The whole page:",
-                  f"newpath 0 0 moveto {width} 0 rlineto 0 {height} rlineto -{width} 0 rlineto settrapzone"]
-    for zone in zones:
-        entries = " ".join(f"/{key} {value}" for key, value in zone.parameters)
-        lines += [f"% {zone.reason}", f"<< {entries} >> settrapparams"]
-        for start in range(0, len(zone.path), RECTS_OF_ZONE):
-            lines += ["newpath", *map(drawn, zone.path[start:start + RECTS_OF_ZONE]), "settrapzone"]
-    return [Statement(None, ("\n".join(lines) + "\n\n").encode())]
+def base_rule(own: Sequence[Statement]) -> Parameters:
+    """What holds on the page before the owner's first zone."""
+    try:
+        return state_after(own[:first_with_zones(own)]).parameters
+    except (JobSyntaxError, RecursionError):
+        return Parameters()
 
 
-def drawn(one: Rect) -> str:
-    """A rectangle as a path of the job."""
-    wide, high = one.right - one.left, one.upper - one.lower
-    return f"{one.left:.3f} {one.lower:.3f} moveto {wide:.3f} 0 rlineto 0 {high:.3f} rlineto -{wide:.3f} 0 rlineto"
+def first_with_zones(own: Sequence[Statement]) -> int:
+    """Which of the owner's statements are the first that make a zone; their number where none does."""
+    return next((at for at, one in enumerate(own) if read(one.text).made), len(own))
+
+
+def state_after(own: Sequence[Statement]) -> JobZone:
+    """What holds after statements that make no zone."""
+    return read_job(b"\n".join(one.text for one in own)).zones[0]
+
+
+class Composer:
+    """Composes the zones of one page."""
+
+    def __init__(self, own: Sequence[Statement], wanted: Wanted) -> None:
+        self.own, self.wanted = list(own), wanted
+        self.first = first_with_zones(own)
+        self.before = state_after(own[:self.first])
+        self.owner = read_job(b"\n".join(one.text for one in own)).zones[1:] if self.first < len(own) else ()
+        last = read_job(b"\n".join(one.text for one in own))
+        # What holds once zones are made is hidden by the job: the last statements that set parameters say it.
+        self.after = last.zones[0] if not self.owner else self.owner_end()
+        self.warnings: list[str] = []
+
+    def owner_end(self) -> JobZone:
+        """What holds at the end of the owner's statements."""
+        closed = [*self.own, Statement(None, b"\n0 0 moveto settrapzone")]
+        return read_job(b"\n".join(one.text for one in closed)).zones[-1]
+
+    def composed(self) -> Composed:
+        """The statements in their order."""
+        page, layers = self.page_zone(), self.layer_zones()
+        thin = self.thin_zones([*page, *layers, *(owner_piece(zone) for zone in self.owner)])
+        images = self.image_zones(thin)
+        if not (self.owner or page or layers):
+            # Without a zone of its own the page is what holds at its end.
+            return Composed(list(self.own), self.warnings, 0, {})
+        writer = Writer(self.before)
+        head = writer.statements([*page, *layers], restore=self.before if self.owner else None)
+        writer.at = self.after if self.owner else writer.at
+        tail = writer.statements([*thin, *images], restore=None)
+        statements = [*self.own[:self.first], *head, *self.own[self.first:], *tail]
+        return Composed(statements, self.warnings, len(thin), self.untrapped(page, layers, images))
+
+    def page_zone(self) -> list[Piece]:
+        """The zone of the page, if it needs one: where the owner makes zones, where traps are kept within a box, and
+        below the press room's other zones."""
+        wanted = self.wanted
+        if self.owner and wanted.only_zones:
+            return []
+        if not (self.owner or wanted.within or wanted.layers or wanted.thin or wanted.images):
+            return []
+        width, height = wanted.size
+        rect = wanted.within or Rect(0, 0, width + BEYOND, height + BEYOND)
+        reason = f"The page within its {wanted.box} box (--trap-within):" if wanted.within else "The whole page:"
+        return [Piece(shape_of(rect), self.before.parameters, self.before.step_limits, reason)]
+
+    def layer_zones(self) -> list[Piece]:
+        """A zone for each layer that the owner named."""
+        found = []
+        for layer in self.wanted.layers:
+            if not layer.places:
+                continue
+            places = fewer(disjoint([self.cut(place) for place in layer.places]), RECTS_OF_ZONE)
+            parameters = self.before.parameters
+            for key, value in layer.entries.items():
+                number = value if isinstance(value, bool) else round(value * SCALE)
+                parameters = replace(parameters, **{KEYS[key]: number})
+            found.append(Piece(tuple(ring for place in places for ring in shape_of(place)), parameters,
+                               self.before.step_limits, f"The layer {layer.name} (--layer):"))
+        return found
+
+    def cut(self, rect: Rect) -> Rect:
+        """A rectangle, as far as traps may be there."""
+        return rect.common(self.wanted.within or self.wanted.page)
+
+    def room(self) -> int:
+        """How many rectangles the owner's zones leave room for."""
+        used = sum(len(points) for zone in self.owner for points in zone.subpaths)
+        return max(0, (MOST_VERTICES - used) // CORNERS - 8)
+
+    def thin_zones(self, below: Sequence[Piece]) -> list[Piece]:
+        """A zone for each width and each zone below, the widest first. Places are split along the zones below; those
+        in a zone that is not enabled, or whose own trap is as narrow, are left out."""
+        places: dict[tuple[int, int], list[Rect]] = {}
+        for width, rects in self.wanted.thin.items():
+            for rect in rects:
+                for at, piece in self.split(self.cut(rect), below):
+                    parameters = below[at].parameters
+                    if parameters.enabled and width * SCALE < parameters.trap_width:
+                        places.setdefault((int(width * SCALE), at), []).append(piece)
+        places = self.fitting(places)
+        found = []
+        for (width, at), rects in sorted(places.items(), key=lambda one: -one[0][0]):
+            parameters = replace(below[at].parameters, trap_width=width) if width else \
+                replace(below[at].parameters, enabled=False)
+            for part in chunks(rects):
+                found.append(Piece(tuple(ring for rect in part for ring in shape_of(rect)), parameters,
+                                   below[at].limits, "Thin strokes (--no-thin-zones leaves them the page's width):"))
+        return found
+
+    def split(self, rect: Rect, below: Sequence[Piece]) -> Iterator[tuple[int, Rect]]:
+        """A rectangle in pieces, each with the number of the topmost zone that it lies in."""
+        left = [rect] if rect != NOTHING else []
+        for at in range(len(below) - 1, -1, -1):
+            outside = []
+            for piece in left:
+                inside, rest = split_by(piece, below[at].shape)
+                yield from ((at, one) for one in inside)
+                outside += rest
+            left = outside
+
+    def fitting(self, places: dict[tuple[int, int], list[Rect]]) -> dict[tuple[int, int], list[Rect]]:
+        """The places of thin strokes, joined until they take at most half of the room, and given up if that does not
+        help: first those of the widest traps."""
+        most = self.room() // 2
+        total = sum(len(rects) for rects in places.values())
+        if total > most:
+            places = {key: fewer(rects, max(1, len(rects) * most // total)) for key, rects in places.items()}
+        kept: dict[tuple[int, int], list[Rect]] = {}
+        zones = MOST_ZONES - len(self.owner) - len(self.wanted.layers) - 40
+        for key, rects in sorted(places.items(), key=lambda one: one[0][0]):
+            if len(rects) <= most and len(kept) < zones:
+                kept[key] = rects
+                most -= len(rects)
+            else:
+                self.warnings.append(f"{len(rects)} places of thin strokes get no zone of their own, {LIMITS}: they "
+                                     f"have the page's trap width")
+        return kept
+
+    def image_zones(self, thin: Sequence[Piece]) -> list[Piece]:
+        """The zones that keep traps out of images: their places, and wound the other way what is drawn above them."""
+        places = disjoint([place for place in map(self.cut, self.wanted.images) if place != NOTHING])
+        if not places:
+            return []
+        room = self.room() - sum(len(piece.shape) for piece in thin)
+        holes = disjoint(fewer([hole for hole in self.wanted.above if any(hole.common(place) != NOTHING
+                                                                          for place in places)], room // 2))
+        pairs = [(place, [hole.common(place) for hole in holes if hole.common(place) != NOTHING]) for place in places]
+        pairs.sort(key=lambda one: -one[0].area)
+        return list(self.image_pieces(pairs, room))
+
+    def image_pieces(self, pairs: Sequence[tuple[Rect, list[Rect]]], room: int) -> Iterator[Piece]:
+        """Zones of at most a thousand rectangles; holes that are too many are given up first, then the smallest
+        images."""
+        reason = "Within images nothing is trapped, but at what is drawn above them (--trap-images traps there too):"
+        off = replace(self.before.parameters, enabled=False)
+        rings: list[tuple[tuple[float, float], ...]] = []
+        given_up = lost = 0
+        for place, holes in pairs:
+            if len(holes) >= min(room, RECTS_OF_ZONE):
+                given_up += len(holes)
+                holes = []
+            if room < 1:
+                lost += 1
+                continue
+            if len(rings) + 1 + len(holes) > RECTS_OF_ZONE:
+                yield Piece(tuple(rings), off, self.before.step_limits, reason)
+                rings = []
+            room -= 1 + len(holes)
+            rings += shape_of(place)
+            rings += [tuple(reversed(shape_of(hole)[0])) for hole in holes]
+        if rings:
+            yield Piece(tuple(rings), off, self.before.step_limits, reason)
+        if given_up:
+            self.warnings.append(f"{given_up} places of type or line work above images are not trapped, {LIMITS}")
+        if lost:
+            self.warnings.append(f"{lost} of the smallest images are trapped inside, {LIMITS}")
+
+    def untrapped(self, page: Sequence[Piece], layers: Sequence[Piece], images: Sequence[Piece]) -> dict[str, float]:
+        """The share of the page in no zone, or in one that is not enabled, by the reason; measured on a grid."""
+        width, height = self.wanted.size
+        rest = TRIM if self.wanted.within and page else OWNER
+        zones = [(piece, LAYERS if piece in layers else OWNER) for piece in
+                 [*page, *layers, *(owner_piece(zone) for zone in self.owner)]]
+        zones += [(piece, IMAGES) for piece in images]
+        counts: dict[str, float] = {}
+        for row in range(GRID):
+            reasons = [rest] * GRID
+            y = (row + 0.5) * height / GRID
+            for piece, reason in zones:
+                for first, last in spans_at(piece.shape, y):
+                    start = max(0, min(GRID, round(first * GRID / width)))
+                    end = max(0, min(GRID, round(last * GRID / width)))
+                    reasons[start:end] = ["" if piece.parameters.enabled else reason] * (end - start)
+            for reason in reasons:
+                if reason:
+                    counts[reason] = counts.get(reason, 0) + 1 / GRID ** 2
+        return counts
+
+
+def spans_at(shape: Shape, y: float) -> Iterator[tuple[float, float]]:
+    """The stretches of a horizontal line that lie within a shape, by the nonzero rule."""
+    crossings = sorted((x0 + (x1 - x0) * (y - y0) / (y1 - y0), 1 if y1 > y0 else -1) for points in shape
+                       for (x0, y0), (x1, y1) in zip(points, points[1:] + points[:1]) if (y0 <= y) != (y1 <= y))
+    winding, start = 0, 0.0
+    for x, way in crossings:
+        if winding == 0:
+            start = x
+        winding += way
+        if winding == 0:
+            yield start, x
+
+
+def owner_piece(zone: JobZone) -> Piece:
+    """A zone of the owner's."""
+    shape = tuple(tuple((x / SCALE, y / SCALE) for x, y in points) for points in zone.subpaths)
+    return Piece(shape, zone.parameters, zone.step_limits, "")
+
+
+def chunks(rects: Sequence[Rect]) -> Iterator[Sequence[Rect]]:
+    """Rectangles in parts that one path can hold."""
+    for start in range(0, len(rects), RECTS_OF_ZONE):
+        yield rects[start:start + RECTS_OF_ZONE]
+
+
+# Writing
+
+class Writer:
+    """Writes zones as statements, and sets of the parameters what changes."""
+
+    def __init__(self, at: JobZone) -> None:
+        self.at = at
+
+    def statements(self, pieces: Sequence[Piece], restore: JobZone | None) -> list[Statement]:
+        """The statements of zones; and those that set again what held before."""
+        lines: list[str] = []
+        reason = ""
+        for piece in pieces:
+            if piece.reason != reason:
+                lines.append(f"% {piece.reason}")
+                reason = piece.reason
+            lines += self.set(piece.parameters, piece.limits)
+            lines += ["newpath", *map(drawn, piece.shape), "settrapzone"]
+        if pieces and restore:
+            lines += self.set(restore.parameters, restore.step_limits)
+        return [Statement(None, ("\n".join(lines) + "\n\n").encode())] if lines else []
+
+    def set(self, parameters: Parameters, limits: Mapping[str, int]) -> list[str]:
+        """What has to be set so that these parameters hold."""
+        names = {field_name: key for key, field_name in KEYS.items()}
+        entries = []
+        for one in fields(Parameters):
+            value = getattr(parameters, one.name)
+            if value != getattr(self.at.parameters, one.name):
+                shown = str(value).lower() if isinstance(value, bool) else decimal(value / SCALE)
+                entries.append(f"/{names[one.name]} {shown}")
+        if dict(limits) != dict(self.at.step_limits):
+            inner = " ".join(f"/{name} << /StepLimit {decimal(limit / SCALE)} >>" for name, limit in limits.items())
+            entries.append(f"/ColorantZoneDetails << {inner} >>")
+        self.at = JobZone(parameters, (), dict(limits))
+        return [f"<< {' '.join(entries)} >> settrapparams"] if entries else []
+
+
+def drawn(points: Sequence[tuple[float, float]]) -> str:
+    """A closed line as a path of the job."""
+    words = [f"{points[0][0]:.3f} {points[0][1]:.3f} moveto"]
+    for (x0, y0), (x1, y1) in zip(points, points[1:]):
+        words.append(f"{step(x1 - x0)} {step(y1 - y0)} rlineto")
+    return " ".join(words)
+
+
+def step(number: float) -> str:
+    """A step of a path."""
+    return f"{number:.3f}" if number else "0"
