@@ -58,13 +58,13 @@ def render(source: Source, page: int, settings: Settings, folder: str) -> Render
     separations = separations_in(folder, done)
     if separations is None:
         raise PressError(Status.PDF, "Ghostscript made no page of it", source.place(page))
-    os.remove(os.path.join(folder, "page.tif"))
     try:
         arrays = tuple(plane(folder, one) for one in separations)
     except (tifffile.TiffFileError, ValueError, IndexError, OSError) as fault:
         # Ghostscript does not notice that a disk is full.
         need_room(folder, "Ghostscript drew")
         raise PressError(Status.PDF, "Ghostscript did not write the plates whole", source.place(page)) from fault
+    os.remove(os.path.join(folder, "page.tif"))
     plates = Plates(tuple(one.name for one in separations), arrays, 255, settings.dpi)
     return Rendering(page, tuple(separations), plates, repairs_in(done), fonts_in(done))
 
