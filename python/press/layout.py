@@ -62,6 +62,8 @@ class Layout:
     warnings: tuple[str, ...] = ()
     untrapped: tuple[tuple[str, float], ...] = ()
     strokes: Strokes | None = None
+    coverage: tuple[tuple[str, float], ...] = ()
+    total_ink: float = 0.0
 
     def findings(self, page: int | None, resolution: int) -> Iterator[Finding]:
         """What the owner should know: what was given up, and strokes that are too thin for this resolution."""
@@ -86,6 +88,8 @@ class Layout:
         """The layout for report.json."""
         found: dict[str, Any] = {"untrapped": {reason: round(share, 4) for reason, share in self.untrapped},
                                  "warnings": list(self.warnings)}
+        found["coverage"] = {name: round(100 * share, 2) for name, share in self.coverage}
+        found["total_ink"] = round(100 * self.total_ink, 1)
         one = self.strokes
         if one:
             found["thin"] = {"parts": one.parts, "lines": one.lines, "zones": one.zones,

@@ -1,16 +1,18 @@
 # SPDX-License-Identifier: Apache-2.0
 """One page from a source: what is known of it once it is rendered, and the folder that is made of that."""
 import os
-from dataclasses import dataclass
+from collections.abc import Sequence
+from dataclasses import dataclass, replace
 
 from . import job
+from .content import coverage_of, intent_profile
 from .errors import PressError, UsageError
 from .files import size_text
 from .folder import JOB, ZONES, PageFolder, PageSource, write_table
 from .inkedits import InkEdits, edit_plates, pairs_of
 from .inks import Ink, InkBook
 from .layout import Layout, lay_out
-from .plates import write_pgm
+from .plates import Plates, write_pgm
 from .render import Rendering, render
 from .settings import Settings
 from .source import PageInfo, Source
@@ -42,6 +44,9 @@ class Page:
 def prepare(source: Source, number: int, settings: Settings, book: InkBook, scratch: str) -> Page:
     """Renders a page in a scratch folder, and looks at what it paints."""
     info = source.page(number)
+    profile = os.path.join(scratch, "intent.icc")
+    if settings.output_intent and not settings.icc and intent_profile(source.pdf, profile):
+        settings = settings.but(icc=profile)
     rendering = edit_plates(render(source, number, settings, scratch), edits_of(settings, book), scratch,
                             source.place(number))
     has_ink = rendering.plates.has_ink()
@@ -73,12 +78,19 @@ def layout_of(page: Page, settings: Settings) -> Layout:
     return lay_out(own, page.info, page.trace, page.rendering.plates, page.inks, settings)
 
 
+def with_coverage(layout: Layout, plates: Plates, inks: Sequence[Ink]) -> Layout:
+    """The layout, with how much ink the page takes: in per cent by plate, and the highest sum."""
+    found = coverage_of(plates, inks)
+    return replace(layout, coverage=tuple(zip((ink.name for ink in inks), found.plates)), total_ink=found.total)
+
+
 def write_page(page: Page, settings: Settings, folder: str, layout: Layout | None = None) -> PageFolder:
     """Writes the plates, the job, the layout and the table of a page into a folder that is there."""
     for name, array in zip(page.rendering.plates.names, page.rendering.plates.arrays):
         write_pgm(os.path.join(folder, name + ".pgm"), array, page.rendering.plates.maxval)
     source = PageSource(os.fsencode(os.path.basename(page.source.path)), page.number, settings.dpi)
-    return write_folder(folder, source, page.inks, layout or layout_of(page, settings))
+    return write_folder(folder, source, page.inks,
+                        with_coverage(layout or layout_of(page, settings), page.rendering.plates, page.inks))
 
 
 def write_folder(folder: str, source: PageSource, inks: tuple[Ink, ...], layout: Layout) -> PageFolder:

@@ -10,7 +10,7 @@ from dataclasses import asdict, dataclass
 
 import numpy
 
-from . import engine, files, images, job, tools
+from . import content, engine, files, images, job, tools
 from .errors import PressError, Status
 from .files import BYTE_ORDER_MARK, bytes_of, free_room, size_text
 from .findings import FAULT, NOTE, WARNING, Finding
@@ -35,6 +35,7 @@ STRIP_ROWS, LEAST_STRIP_ROWS, STRIP_SAMPLES = 128, 32, 67_108_864
 # From which tint on a sample has ink, and below which it has none, where one ink knocks out others: full ink is 0.
 MUCH, LITTLE = 127, 250
 KNOCK_OUT_SAMPLES, BAND_ROWS = 3, 256
+USUAL_STEP = 0.25
 CONVERTED = Finding("converted", NOTE, None, "PostScript: Ghostscript made a PDF of it")
 NO_SIZE = ("the page tells no size that can be read, and Ghostscript takes one of its own: its inks and images are not "
            "looked at")
@@ -118,7 +119,7 @@ def check_file(source: Source, settings: Settings, book: InkBook, pages: Sequenc
         if page > source.count:
             raise PressError(Status.PDF, f"there is no page {page}: it has {source.count}", source.path)
     source.read([page for page in pages if page not in source.known])
-    found = list(table_findings(source, settings, book))
+    found = [*table_findings(source, settings, book), *content.file_findings(source.pdf, settings)]
     if lacks_box(source.path):
         found.append(Finding("box", WARNING, None, "the EPS tells no box (%%BoundingBox): Ghostscript takes a page of "
                              "the usual size"))
@@ -284,6 +285,7 @@ def check_page(page: Page, settings: Settings, book: InkBook, place: str | None 
     found += room_findings(needs, place)
     found += image_findings(page, page.info, settings)
     found += layout_findings(page, page.info, settings)
+    found += content_findings(page, page.info, settings)
     return PageReport(tuple(dict.fromkeys(found)), needs)
 
 
@@ -419,6 +421,19 @@ def image_findings(page: Page, info: PageInfo, settings: Settings) -> Iterator[F
         above = "but at type and line work above them" if settings.over_images else above
         yield Finding("images", NOTE, page.number, f"{count} over {100 * largest:.0f}% of the page: within images "
                       f"nothing is trapped, {above} (--trap-images traps there)")
+
+
+def content_findings(page: Page, info: PageInfo, settings: Settings) -> Iterator[Finding]:
+    """What is found in the content of a page: ink, colours, type, lines and images."""
+    plates, inks, number = page.rendering.plates, page.inks, page.number
+    step = settings.parameters["step"].number if "step" in settings.parameters else USUAL_STEP
+    yield from content.ink_findings(plates, inks, number, settings.total_ink)
+    yield from content.untrapped_edges(plates, inks, number, step)
+    yield from content.font_findings(page.source.pdf, number)
+    if page.trace:
+        yield from content.colour_findings(page.trace, info, settings, number)
+        yield from content.line_findings(page.trace, info, settings, number)
+        yield from content.reversed_findings(page.trace, plates, inks, info, settings, number)
 
 
 def layout_findings(page: Page, info: PageInfo, settings: Settings) -> Iterator[Finding]:

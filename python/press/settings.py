@@ -171,6 +171,8 @@ class Settings:
     dpi: int = 600
     box: str = "media"
     icc: str | None = None
+    output_intent: bool = False
+    total_ink: float = 3.0
     time: int | None = None
     # Inks: NAME=DENSITY and NAME=KIND as given, and a table of inks.
     density: tuple[str, ...] = ()
@@ -246,6 +248,10 @@ def add_page_options(parser: argparse.ArgumentParser) -> None:
              'zones. What they set counts before the words of the command line')
     add("--icc", metavar="FILE",
         help="the profile of the press, by which colours that are no inks are separated, and inks are looked at")
+    add("--output-intent", action="store_true", default=None,
+        help="takes the profile of the file's own output intent as --icc, if it has one")
+    add("--total-ink", metavar="SHARE", type=total_of,
+        help="from how much ink on preflight names the place: 300%% where it is left out")
     add("-p", "--preset", metavar="NAME",
         help='trapping parameters by a name: "offset", "flexo", "gravure", "screen", or one of the house')
     add("-w", "--width", metavar="W", help="how far a trap reaches, with its unit: 0.1mm, 100um, 0.25pt or 0.004in")
@@ -293,6 +299,12 @@ def add_zone_options(parser: argparse.ArgumentParser) -> None:
     add("--layer", metavar="NAME=..", action="append",
         help="parameters where a layer paints: NAME=off, or NAME=KEY=VALUE[,KEY=VALUE] with the keys of trap-job(5), "
              '"White=Enabled=false" say')
+
+
+def total_of(text: str) -> float:
+    """A sum of tints: 300% or 3."""
+    bare, percent = (text[:-1], True) if text.endswith("%") else (text, False)
+    return number(bare, 0, 1600 if percent else 16, "--total-ink") / (100 if percent else 1)
 
 
 def within_of(text: str) -> str:

@@ -17,6 +17,8 @@ from .source import Source
 Matrix = tuple[float, float, float, float, float, float]
 IDENTITY: Matrix = (1.0, 0.0, 0.0, 1.0, 0.0, 0.0)
 LEAST_SAMPLES, CURVE_STEPS = 64, 8
+# So many colours of a page are kept.
+MOST_PAINTS = 2000
 EVERYTHING = Rect(-1e9, -1e9, 1e9, 1e9)
 # How long mutool may be at a page if no limit is given.
 USUAL_SECONDS = 600
@@ -30,6 +32,17 @@ class Image:
     corners: Polygon
     clips: list[list[Polygon]]
     order: int = 0
+
+
+@dataclass(frozen=True)
+class Paint:
+    """The colour in which something is painted: its colour space, its parts from 0 to 1, whether it is type and of
+    which size in points, and the box around it."""
+
+    space: str
+    colour: tuple[float, ...]
+    box: Rect
+    size: float = 0.0
 
 
 @dataclass
@@ -49,6 +62,10 @@ class Trace:
     order: int = 0
     half_width: float = 0.0
     trm: list[float] = field(default_factory=list)
+    paint: tuple[str, tuple[float, ...]] = ("", ())
+    paints: dict[tuple[str, tuple[float, ...], bool], Paint] = field(default_factory=dict)
+    hairline: tuple[float, Rect] | None = None
+    coarsest: tuple[float, Rect] | None = None
 
     def start(self, tag: str, values: dict[str, str]) -> None:
         """An element begins."""
@@ -64,17 +81,20 @@ class Trace:
         elif tag == "end_layer":
             del self.layers[-1:]
         elif tag in ("fill_path", "stroke_path"):
+            self.paint = paint_of(values)
             self.path, self.matrix = [], matrix_of(values)
-            a, b, c, d, *_ = self.matrix
-            scale = math.sqrt(abs(a * d - b * c))
-            self.half_width = float(values.get("linewidth", 0)) / 2 * scale if tag == "stroke_path" else 0.0
+            width = float(values.get("linewidth", 0)) * scale_of(self.matrix)
+            self.half_width = width / 2 if tag == "stroke_path" else 0.0
         elif tag in ("fill_text", "stroke_text"):
-            self.matrix = matrix_of(values)
+            self.paint, self.matrix = paint_of(values), matrix_of(values)
         elif tag == "span":
             self.trm = [float(part) for part in values.get("trm", "").split()]
         elif tag == "g" and len(self.trm) == 4:
             corners = glyph_corners(float(values["x"]), float(values["y"]), float(values.get("adv", 0.6)), self.trm)
-            self.add_mark([[mapped(self.matrix, x, y) for x, y in corners]], True, 0.0)
+            points = [mapped(self.matrix, x, y) for x, y in corners]
+            a, b, c, d = self.trm
+            self.add_mark([points], True, 0.0)
+            self.note_paint(around(points), math.sqrt(abs(a * d - b * c)) * scale_of(self.matrix))
         elif tag == "fill_image_mask":
             self.add_mark([corners_of(matrix_of(values), 0, 0, 1, 1)], True, 0.0)
         elif tag.startswith("clip_"):
@@ -101,7 +121,9 @@ class Trace:
             self.path = None
         elif tag in ("fill_path", "stroke_path") and self.path is not None:
             if not self.tiles:
-                self.add_mark([points for points in self.path if points], tag == "fill_path", self.half_width)
+                polygons = [points for points in self.path if points]
+                self.add_mark(polygons, tag == "fill_path", self.half_width)
+                self.note_path(polygons, tag == "stroke_path")
             self.path = None
         elif tag in ("fill_text", "stroke_text"):
             self.trm = []
@@ -140,6 +162,22 @@ class Trace:
             self.boxes += len(outline)
             self.marks.append(Mark(self.order, box, tuple(one for one in outline if one != NOTHING)))
 
+    def note_path(self, polygons: list[Polygon], is_line: bool) -> None:
+        """The colour of a path, and the thinnest line."""
+        if self.masks or not polygons:
+            return
+        box = around([point for points in polygons for point in points])
+        self.note_paint(box, 0.0)
+        if is_line and (self.hairline is None or 2 * self.half_width < self.hairline[0]):
+            self.hairline = 2 * self.half_width, box
+
+    def note_paint(self, box: Rect, size: float) -> None:
+        """A colour that is painted with, where it comes first; of type the smallest."""
+        key = *self.paint, size > 0
+        known = self.paints.get(key)
+        if self.masks == 0 and (known is None and len(self.paints) < MOST_PAINTS or known and size < known.size):
+            self.paints[key] = Paint(*self.paint, box, size)
+
     def clip_box(self) -> Rect:
         """The rectangle around what the clips leave."""
         box = EVERYTHING
@@ -153,6 +191,14 @@ class Trace:
         for name in self.layers:
             self.painted.setdefault(name, []).append(box)
 
+    def note_resolution(self, values: dict[str, str], corners: Polygon) -> None:
+        """The image that has the fewest pixels an inch."""
+        a, b, c, d, *_ = matrix_of(values)
+        sides = (int(values["width"]), math.hypot(a, b)), (int(values["height"]), math.hypot(c, d))
+        resolution = min(count * 72 / side for count, side in sides if side > 0) if a or b or c or d else 0.0
+        if resolution and (self.coarsest is None or resolution < self.coarsest[0]):
+            self.coarsest = resolution, around(corners)
+
     def add_image(self, values: dict[str, str]) -> None:
         """An image that is no line work. A pattern with an image in it is image as far as it goes."""
         if int(values.get("width", 0)) * int(values.get("height", 0)) < LEAST_SAMPLES:
@@ -160,6 +206,7 @@ class Trace:
         corners = self.tiles[0] if self.tiles else corners_of(matrix_of(values), 0, 0, 1, 1)
         if not self.images or self.images[-1].corners != corners:
             self.order += 1
+            self.note_resolution(values, corners)
             self.images.append(Image(corners, [clip for clip in self.clips if clip], self.order))
             self.note_layers(around(corners).common(self.clip_box()))
 
@@ -168,6 +215,17 @@ def matrix_of(values: dict[str, str]) -> Matrix:
     """The matrix of an element."""
     parts = [float(part) for part in values.get("transform", "").split()]
     return (parts[0], parts[1], parts[2], parts[3], parts[4], parts[5]) if len(parts) == 6 else IDENTITY
+
+
+def scale_of(matrix: Matrix) -> float:
+    """How much longer things become under a matrix, on the mean."""
+    a, b, c, d, *_ = matrix
+    return math.sqrt(abs(a * d - b * c))
+
+
+def paint_of(values: dict[str, str]) -> tuple[str, tuple[float, ...]]:
+    """The colour of an element."""
+    return values.get("colorspace", ""), tuple(float(part) for part in values.get("color", "").split())
 
 
 def mapped(matrix: Matrix, x: float, y: float) -> Point:

@@ -1,0 +1,296 @@
+# SPDX-License-Identifier: Apache-2.0
+"""Preflight of content: colours, type, lines, images and ink of a page, and what a file says of itself. One function
+for each subject; each finding names the place in millimetres from the lower left corner of the page as it is drawn."""
+from __future__ import annotations
+
+import re
+from collections.abc import Iterator, Sequence
+from dataclasses import dataclass
+from typing import Any
+
+import numpy
+import pikepdf
+
+from .findings import NOTE, WARNING, Finding
+from .images import moved_to_page
+from .inks import Ink
+from .names import readable
+from .plates import Array, Plates
+from .rects import Rect
+from .settings import Settings
+from .source import MOST_DEPTH, UNREAD, PageInfo, inherited
+from .tables import counts
+from .trace import Trace
+
+MILLIMETRES = 25.4 / 72
+# The spaces that a press prints by itself, as the trace names them.
+OF_PLATES = re.compile(r"DeviceCMYK|DeviceGray|Separation\(.*|DeviceN\(.*|None|")
+# Type is black from these parts on, and made of several inks if others have at least so much.
+DARK_RGB, DARK_BLACK, OTHER_INK = 0.25, 0.5, 0.1
+# Type and lines below so many points are small; an ink that covers so much of the ground is one of it.
+SMALL_TYPE, HAIRLINE, GROUND_SHARE = 7.0, 0.25, 0.3
+# An image with fewer pixels an inch is coarse.
+COARSE = 150.0
+BAND_ROWS = 256
+
+
+@dataclass(frozen=True)
+class Coverage:
+    """How much ink a page takes: the mean tint of each plate, the highest sum of tints, both as shares of full ink, and
+    the place of that in points."""
+
+    plates: tuple[float, ...]
+    total: float
+    place: tuple[float, float]
+
+
+def at(rect: Rect) -> str:
+    """A place as a line names it."""
+    x, y = (rect.left + rect.right) / 2 * MILLIMETRES, (rect.lower + rect.upper) / 2 * MILLIMETRES
+    return f"at {x:.0f}, {y:.0f} mm"
+
+
+# Ink
+
+def coverage_of(plates: Plates, inks: Sequence[Ink]) -> Coverage:
+    """How much ink a page takes, row block by row block. Varnish, die lines and the like are left out of the total."""
+    sums = numpy.zeros(len(plates.arrays))
+    best, row, column = -1.0, 0, 0
+    wide = numpy.uint16 if plates.maxval < 256 else numpy.uint32
+    for first, end, _, _ in plates.bands(BAND_ROWS):
+        total: Array | None = None
+        for number, (array, ink) in enumerate(zip(plates.arrays, inks)):
+            if not ink.has_ink:
+                continue
+            tints = plates.maxval - array[first:end].astype(wide)
+            sums[number] += float(tints.sum(dtype=numpy.uint64))
+            if counts(ink.kind):
+                total = tints if total is None else total + tints
+        if total is not None and total.max() > best:
+            place = numpy.unravel_index(int(total.argmax()), total.shape)
+            best, row, column = float(total.max()), first + int(place[0]), int(place[1])
+    scale = 72 / plates.resolution
+    samples = plates.width * plates.height * plates.maxval
+    return Coverage(tuple(float(one) / samples for one in sums), max(best, 0) / plates.maxval,
+                    ((column + 0.5) * scale, (plates.height - row - 0.5) * scale))
+
+
+def ink_findings(plates: Plates, inks: Sequence[Ink], page: int, limit: float) -> Iterator[Finding]:
+    """That a place takes more ink than the limit, a share of full ink."""
+    found = coverage_of(plates, inks)
+    if found.total > limit + 0.005:
+        x, y = found.place
+        yield Finding("total-ink", NOTE, page, f"{100 * found.total:.0f}% of ink {at(Rect(x, y, x, y))}, and the limit "
+                      f"is {100 * limit:.0f}% (--total-ink)")
+
+
+def untrapped_edges(plates: Plates, inks: Sequence[Ink], page: int, step: float) -> Iterator[Finding]:
+    """Inks that meet along edges of which none is trapped, because of their kinds."""
+    inked = [(array, ink) for array, ink in zip(plates.arrays, inks) if ink.has_ink and counts(ink.kind)]
+    for number, (array, ink) in enumerate(inked):
+        if ink.kind == "Normal":
+            continue
+        for other_number, (other, beside) in enumerate(inked):
+            both_opaque = beside.kind != "Normal"
+            if other_number == number or both_opaque and other_number < number:
+                continue
+            if not both_opaque and float(beside.density) <= float(ink.density):
+                continue
+            edges = meeting(array, other, step * plates.maxval)
+            if edges:
+                why = "both are opaque" if both_opaque else f"{readable(ink.colorant)} is opaque and the lighter one"
+                names = f"{readable(ink.colorant)} and {readable(beside.colorant)}"
+                yield Finding("untrapped-inks", WARNING, page, f"{names} meet along {edges} edges, and none of them is "
+                              f"trapped: {why}, and no trap spreads an opaque ink (--density, --kind or --role says "
+                              f"otherwise)")
+
+
+def meeting(one: Array, other: Array, least: float) -> int:
+    """Between how many neighbours one plate gains ink and the other one loses it, each by a step."""
+    count, need = 0, max(1, int(least + 0.999))
+    for start in range(0, one.shape[0], BAND_ROWS):
+        first, second = (array[start:start + BAND_ROWS + 1].astype(numpy.int32) for array in (one, other))
+        for axis in (0, 1):
+            rise, fall = numpy.diff(first, axis=axis), numpy.diff(second, axis=axis)
+            marks = ((rise >= need) & (fall <= -need)) | ((rise <= -need) & (fall >= need))
+            count += int(marks[:BAND_ROWS].sum())
+    return count
+
+
+# What is painted
+
+def on_page(rect: Rect, info: PageInfo, settings: Settings) -> Rect:
+    """A rectangle of the trace on the page; where it lies outside, the whole page."""
+    return next(iter(moved_to_page([rect], info, settings.box)), Rect(0, 0, *info.size(settings.box)))
+
+
+def colour_findings(trace: Trace, info: PageInfo, settings: Settings, page: int) -> Iterator[Finding]:
+    """Colours that are no inks, and black type of several."""
+    others: dict[str, Rect] = {}
+    for paint in trace.paints.values():
+        if not OF_PLATES.fullmatch(paint.space):
+            others.setdefault(paint.space, paint.box)
+    for space, box in sorted(others.items()):
+        profile = "the profile of --icc" if settings.icc else "Ghostscript's own profile (--icc or --output-intent)"
+        yield Finding("colour-space", NOTE, page, f"colour in {readable(space.encode())} "
+                      f"{at(on_page(box, info, settings))} is separated by {profile}")
+    for paint in trace.paints.values():
+        if paint.size and is_rich_black(paint.space, paint.colour):
+            yield Finding("rich-type", NOTE, page, f"black type of {paint.size:.1f} pt is made of several inks "
+                          f"{at(on_page(paint.box, info, settings))}: out of register it has coloured rims")
+            break
+
+
+def is_rich_black(space: str, colour: Sequence[float]) -> bool:
+    """Whether a colour of type is black, and is printed with three or four inks."""
+    if "RGB" in space and len(colour) == 3:
+        return max(colour) <= DARK_RGB
+    return space == "DeviceCMYK" and len(colour) == 4 and colour[3] >= DARK_BLACK and \
+        sum(part >= OTHER_INK for part in colour) >= 3
+
+
+def line_findings(trace: Trace, info: PageInfo, settings: Settings, page: int) -> Iterator[Finding]:
+    """Lines that are too thin to print, and images that are too coarse."""
+    if trace.hairline and trace.hairline[0] < HAIRLINE:
+        width, box = trace.hairline
+        yield Finding("hairline", NOTE, page, f"a line of {width:.2f} pt {at(on_page(box, info, settings))} may not "
+                      f"print: {HAIRLINE:g} pt is the least")
+    if trace.coarsest and trace.coarsest[0] < COARSE:
+        resolution, box = trace.coarsest
+        yield Finding("image-resolution", NOTE, page, f"an image has {resolution:.0f} pixels per inch "
+                      f"{at(on_page(box, info, settings))}: {COARSE:.0f} is the least")
+
+
+def reversed_findings(trace: Trace, plates: Plates, inks: Sequence[Ink], info: PageInfo, settings: Settings,
+                      page: int) -> Iterator[Finding]:
+    """Small type of bare paper in a ground of several inks."""
+    for paint in trace.paints.values():
+        if not paint.size or paint.size >= SMALL_TYPE or not is_paper(paint):
+            continue
+        box = on_page(paint.box, info, settings)
+        ground = ground_inks(plates, inks, box)
+        if len(ground) > 1:
+            yield Finding("small-reverse", NOTE, page, f"type of {paint.size:.1f} pt is reversed out of "
+                          f"{' + '.join(ground)} {at(box)}: out of register it fills in")
+            return
+
+
+def is_paper(paint: Any) -> bool:
+    """Whether a colour is that of bare paper."""
+    if paint.space == "DeviceCMYK" or paint.space.startswith(("Separation", "DeviceN")):
+        return bool(paint.colour) and not any(paint.colour)
+    return bool(paint.colour) and min(paint.colour) >= 1
+
+
+def ground_inks(plates: Plates, inks: Sequence[Ink], box: Rect) -> list[str]:
+    """The inks that cover a good part of a box."""
+    scale = plates.resolution / 72
+    rows = slice(max(0, int(plates.height - box.upper * scale)), int(plates.height - box.lower * scale) + 1)
+    columns = slice(max(0, int(box.left * scale)), int(box.right * scale) + 1)
+    found = []
+    for array, ink in zip(plates.arrays, inks):
+        part = array[rows, columns]
+        if counts(ink.kind) and part.size and 1 - float(part.mean()) / plates.maxval >= GROUND_SHARE:
+            found.append(readable(ink.colorant))
+    return found
+
+
+# What the file says
+
+def file_findings(path: str, settings: Settings) -> Iterator[Finding]:
+    """What a PDF says of itself: encryption, traps, layers and output intents."""
+    try:
+        with pikepdf.open(path) as pdf:
+            yield from trapped_findings(pdf)
+            if pdf.is_encrypted and not (pdf.allow.print_highres and pdf.allow.print_lowres):
+                yield Finding("encrypted", WARNING, None, "printing is forbidden by the file's encryption")
+            yield from layer_findings(pdf)
+            yield from intent_findings(pdf, settings)
+    except (*UNREAD, AttributeError, TypeError, ValueError, KeyError):
+        return
+
+
+def trapped_findings(pdf: Any) -> Iterator[Finding]:
+    """That a file was trapped before."""
+    trapped = str(pdf.docinfo.get("/Trapped", "")) if "/Info" in pdf.trailer else ""
+    nets = [number for number, page in enumerate(pdf.pages, 1) for one in page.obj.get("/Annots", [])
+            if str(one.get("/Subtype", "")) == "/TrapNet"]
+    if trapped in ("/True", "True", "true") or nets:
+        what = f"page {nets[0]} has a trap network" if nets else "the file says that it is (/Trapped)"
+        yield Finding("already-trapped", WARNING, None, f"trapped already: {what}; traps of traps print as rims")
+
+
+def layer_findings(pdf: Any) -> Iterator[Finding]:
+    """The layers of a file, and which of them are off."""
+    properties = pdf.Root.get("/OCProperties")
+    if properties is None:
+        return
+    default = properties.get("/D", pikepdf.Dictionary())
+    off = {one.objgen for one in default.get("/OFF", [])}
+    base_off = str(default.get("/BaseState", "/ON")) == "/OFF"
+    on = {one.objgen for one in default.get("/ON", [])}
+    names, hidden = [], []
+    for group in properties.get("/OCGs", []):
+        name = str(group.get("/Name", ""))
+        names.append(name)
+        if group.objgen in off or base_off and group.objgen not in on:
+            hidden.append(name)
+    if names:
+        state = f"off, and so not printed or trapped: {', '.join(hidden)}" if hidden else "all are on"
+        yield Finding("layers", NOTE, None, f"{len(names)} layers ({', '.join(names)}); {state}")
+
+
+def intent_findings(pdf: Any, settings: Settings) -> Iterator[Finding]:
+    """The output intents of a file, and whether one is used."""
+    names = intents_of(pdf)
+    if names:
+        used = settings.output_intent
+        state = "it is used" if used else "it is not used (--output-intent uses it)"
+        yield Finding("output-intent", NOTE, None, f"output intent {', '.join(names)}; {state}")
+
+
+def intents_of(pdf: Any) -> list[str]:
+    """The conditions that the output intents name."""
+    return [str(one.get("/OutputConditionIdentifier", one.get("/Info", "without a name")))
+            for one in pdf.Root.get("/OutputIntents", [])]
+
+
+def intent_profile(path: str, out: str) -> bool:
+    """Writes the profile of a file's first output intent that has one; whether there is any."""
+    try:
+        with pikepdf.open(path) as pdf:
+            for one in pdf.Root.get("/OutputIntents", []):
+                if "/DestOutputProfile" in one:
+                    with open(out, "wb") as file:
+                        file.write(one["/DestOutputProfile"].read_bytes())
+                    return True
+    except UNREAD:
+        pass
+    return False
+
+
+def font_findings(path: str, page: int) -> Iterator[Finding]:
+    """Fonts of a page that the file does not embed."""
+    try:
+        with pikepdf.open(path) as pdf:
+            names = sorted(set(fonts_outside(inherited(pdf.pages[page - 1].obj, "/Resources"), set(), 0)))
+    except (*UNREAD, AttributeError, TypeError, ValueError, KeyError, IndexError):
+        return
+    if names:
+        yield Finding("font-embedded", NOTE, page, f"fonts that the file does not embed: {', '.join(names)}")
+
+
+def fonts_outside(resources: Any, seen: set[tuple[int, int]], depth: int) -> Iterator[str]:
+    """The names of fonts in resources, and in those of forms, that have no font file."""
+    if not isinstance(resources, pikepdf.Dictionary) or depth > MOST_DEPTH:
+        return
+    for font in dict(resources.get("/Font", {})).values():
+        inner = font["/DescendantFonts"][0] if "/DescendantFonts" in font else font
+        descriptor = inner.get("/FontDescriptor", {})
+        is_inside = any(f"/FontFile{kind}" in descriptor for kind in ("", "2", "3"))
+        if not is_inside and str(font.get("/Subtype")) != "/Type3":
+            yield str(font.get("/BaseFont", "/without a name"))[1:]
+    for form in dict(resources.get("/XObject", {})).values():
+        if form.objgen not in seen:
+            seen.add(form.objgen)
+            yield from fonts_outside(form.get("/Resources"), seen, depth + 1)
