@@ -81,7 +81,8 @@ class Plates:
 def is_blank(array: Array, maxval: int) -> bool:
     """Whether a plate has no ink anywhere. It is looked at block by block."""
     rows = max(1, BLOCK_BYTES // max(1, array.shape[1] * array.itemsize))
-    return all(bool((array[start:start + rows] == maxval).all()) for start in range(0, array.shape[0], rows))
+    starts = range(0, array.shape[0] if array.size else 0, rows)
+    return all(int(array[start:start + rows].min()) >= maxval for start in starts)
 
 
 def fits_page(width: int, height: int, plates: int) -> bool:
