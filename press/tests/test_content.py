@@ -192,8 +192,10 @@ def test_fonts_that_are_not_embedded(tmp_path: Path) -> None:
         form = pdf.make_stream(b"", Type=Name.XObject, Subtype=Name.Form, BBox=[0, 0, 9, 9], Resources=Dictionary(
             Font=Dictionary(F=Dictionary(Type=Name.Font, Subtype=Name.Type1, BaseFont=Name.Courier))))
         pdf.pages[0].obj.Resources = Dictionary(Font=Dictionary(A=plain, B=inside), XObject=Dictionary(X=form))
-    found = texts(content.font_findings(saved(tmp_path / "a.pdf", add_fonts), 1))
+    path = saved(tmp_path / "a.pdf", add_fonts)
+    found = texts(content.font_findings(path, 1))
     assert found["font-embedded"] == "fonts that the file does not embed: Courier, Helvetica"
+    assert not list(content.font_findings(path, 1, ("Courier", "Helvetica")))
 
 
 def test_files_that_are_no_pdf_have_no_findings(tmp_path: Path) -> None:

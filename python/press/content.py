@@ -269,13 +269,14 @@ def intent_profile(path: str, out: str) -> bool:
     return False
 
 
-def font_findings(path: str, page: int) -> Iterator[Finding]:
-    """Fonts of a page that the file does not embed."""
+def font_findings(path: str, page: int, known: Sequence[str] = ()) -> Iterator[Finding]:
+    """Fonts of a page that the file does not embed, but for those that are known to lack."""
     try:
         with pikepdf.open(path) as pdf:
             names = sorted(set(fonts_outside(inherited(pdf.pages[page - 1].obj, "/Resources"), set(), 0)))
     except (*UNREAD, AttributeError, TypeError, ValueError, KeyError, IndexError):
         return
+    names = [name for name in names if name not in known]
     if names:
         yield Finding("font-embedded", NOTE, page, f"fonts that the file does not embed: {', '.join(names)}")
 

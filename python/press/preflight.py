@@ -429,7 +429,7 @@ def content_findings(page: Page, info: PageInfo, settings: Settings) -> Iterator
     step = settings.parameters["step"].number if "step" in settings.parameters else USUAL_STEP
     yield from content.ink_findings(plates, inks, number, settings.total_ink)
     yield from content.untrapped_edges(plates, inks, number, step)
-    yield from content.font_findings(page.source.pdf, number)
+    yield from content.font_findings(page.source.pdf, number, [font for font, _ in page.rendering.fonts])
     if page.trace:
         yield from content.colour_findings(page.trace, info, settings, number)
         yield from content.line_findings(page.trace, info, settings, number)
