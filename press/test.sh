@@ -1037,12 +1037,12 @@ assert told["samples_changed"] > 0 and told["edges"] > 0 and {ink["name"] for in
 assert told["misregister"]["radius"] == 1 and told["misregister"]["bared_before"] > 0 == told["misregister"]["bared_after"], told
 PYTHON
   # The usual shifts part no two plates by more than a trap is wide.
-  python3 - "$here/lib" <<'PYTHON' || wrong "proof: the usual shifts"
+  /usr/bin/python3 - "$top/python" <<'PYTHON' || wrong "proof: the usual shifts"
 import sys
 sys.path.insert(0, sys.argv[1])
-import painting, press
-page = press.Page("proofed/page-001")
-shifts, width = painting.usual_shifts(page), painting.trap_width(page)
+from press import folder, picture
+page = folder.PageFolder.read("proofed/page-001")
+shifts, width = picture.usual_shifts(page), picture.trap_width(page)
 assert 2 < width < 3 and max(((a - c) ** 2 + (b - d) ** 2) ** 0.5 for a, b in shifts for c, d in shifts) in (1, 2), shifts
 PYTHON
   goes "$here/proof" proofed/page-001

@@ -4,20 +4,20 @@ import os
 import sys
 
 sys.dont_write_bytecode = True
-sys.path.insert(0, os.path.join(os.path.dirname(os.path.realpath(__file__)), "..", "lib"))
-import press
+sys.path.insert(0, os.path.join(os.path.dirname(os.path.realpath(__file__)), "..", "..", "python"))
+from press.start import need_libraries
+
+need_libraries("numpy")
+from press.folder import PageFolder
 
 
 def main():
-    page = press.Page(sys.argv[1])
+    page = PageFolder.read(sys.argv[1])
     left, top, width, height = (int(part) for part in sys.argv[2].split(","))
-    pairs = [(press.plate_samples(page.plate(one)), press.plate_samples(page.plate(one, True))) for one in page.colorants]
-    changed = 0
-    for row in range(top, top + height):
-        start = row * page.head.width + left
-        rows = [(bytes(old[start:start + width]), bytes(new[start:start + width])) for old, new in pairs]
-        changed += sum(any(old[k] != new[k] for old, new in rows) for k in range(width)) if any(a != b for a, b in rows) else 0
-    print(changed)
+    changed = False
+    for old, new in zip(page.plates().arrays, page.plates(True).arrays):
+        changed = changed | (old[top:top + height, left:left + width] != new[top:top + height, left:left + width])
+    print(int(changed.sum()))
 
 
 main()

@@ -7,12 +7,12 @@ import re
 import sys
 
 sys.dont_write_bytecode = True
-sys.path.insert(0, os.path.join(os.path.dirname(os.path.realpath(__file__)), "..", "lib"))
-import ink_tables
-import job_tables
+sys.path.insert(0, os.path.join(os.path.dirname(os.path.realpath(__file__)), "..", "..", "python"))
+from press import inks, tables
+from press.settings import Settings
 
 KINDS = {"CutContour": "Transparent", "Stanzlinie": "Transparent", "Découpe": "Transparent", "Die-Line": "Transparent",
-         "Varnish_Gloss": "Transparent", "UV Lack": "Transparent", "White opaque": "Transparent", "Deckweiß": "Transparent",
+         "Varnish_Gloss": "Transparent", "UV Lack": "Transparent", "White opaque": "Normal", "Deckweiß": "Normal",
          "Gold Foil": "OpaqueIgnore", "Heißfolie Silber": "OpaqueIgnore", "Silver": "Opaque", "PANTONE 877 C": "Opaque",
          "PANTONE 185 C": "Normal", "Warm Red": "Normal", "100% (matt)": "Normal", "Coca Cola Red": "Normal", "Cyan": "Normal",
          "Goldgelb": "Normal", "Dark Blue": "Normal", "Whisky": "Normal", "MuddyBlack": "Normal", "Glanzlack": "Transparent"}
@@ -30,20 +30,20 @@ def density(color):
 
 def main():
     for name in ("process.inks", "spots.inks", "technical.inks"):
-        with open(os.path.join(ink_tables.LIBRARY, name), encoding="utf-8") as file:
+        with open(os.path.join(inks.LIBRARY, name), encoding="utf-8") as file:
             text = file.read()
         sources = set(re.findall(r"^# (\w+) {2,}\w", text, re.MULTILINE))
-        for number, line in ink_tables.table_lines(os.path.join(ink_tables.LIBRARY, name)):
+        for number, line in inks.entries_of(os.path.join(inks.LIBRARY, name)):
             pattern, figure, kind, source, *color = line.split("\t")
             assert source in sources, f"{name}: line {number}: no source {source}"
-            assert kind in job_tables.kinds() and (figure == "-" or 0.001 <= float(figure) <= 10), f"{name}: line {number}"
+            assert kind in tables.kinds() and (figure == "-" or 0.001 <= float(figure) <= 10), f"{name}: line {number}"
             assert source != "look" or density(color[0]) == figure, f"{name}: line {number}: {density(color[0])}"
-    inks = ink_tables.Inks({"--density": [], "--kind": []}, None)
+    book = inks.InkBook(Settings(), None)
     for name, kind in KINDS.items():
-        found = inks.details(name.encode(), name, None)
+        found = book.ink(inks.Separation(name.encode(), b"", None, name))
         assert found.kind == kind, f"{name}: {found}"
     for name in COLORS + [f"{one} 2" for one in COLORS] + [f"Dark{one.title()}" for one in COLORS]:
-        assert inks.details(name.encode(), name, None).kind == "Normal", name
+        assert book.ink(inks.Separation(name.encode(), b"", None, name)).kind == "Normal", name
 
 
 main()

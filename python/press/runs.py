@@ -217,7 +217,7 @@ def drop_plates(folder: str) -> None:
 
 def work(todo: PageWork, end: Connection, parent: int) -> None:
     """Does a page in a process of its own, and sends the events to the run."""
-    tools.die_with(parent)
+    tools.begin_process(parent)
     todo.observer = end.send
     try:
         end.send(todo.do())
@@ -249,9 +249,10 @@ class Workers:
         """Starts a page."""
         ours, theirs = self.context.Pipe(duplex=False)
         process = self.context.Process(target=work, args=(todo, theirs, os.getpid()))
-        process.start()
+        with tools.signals_wait():
+            process.start()
+            self.active[ours] = todo.number, process
         theirs.close()
-        self.active[ours] = todo.number, process
 
     def hear(self) -> None:
         """Waits for an event of a page, and hands it on."""

@@ -69,6 +69,22 @@ def die_with(parent: int) -> None:
         os.kill(os.getpid(), signal.SIGKILL)
 
 
+@contextlib.contextmanager
+def signals_wait() -> Iterator[None]:
+    """Signals that stop a command wait until the block is left: Python drops one that arrives while it forks."""
+    before = signal.pthread_sigmask(signal.SIG_BLOCK, STOPS)
+    try:
+        yield
+    finally:
+        signal.pthread_sigmask(signal.SIG_SETMASK, before)
+
+
+def begin_process(parent: int) -> None:
+    """How a process begins that was forked while signals wait: it ends with its parent, and can be stopped."""
+    die_with(parent)
+    signal.pthread_sigmask(signal.SIG_UNBLOCK, STOPS)
+
+
 def preparation(before: set[Any], memory: int | None) -> Callable[[], None]:
     """What a child does between fork and exec: it ends with its parent, and has its limit of address space in bytes."""
     parent = os.getpid()

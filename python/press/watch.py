@@ -79,7 +79,7 @@ def fault_of(path: str) -> str | None:
 
 def run_file(path: str, out: str, settings: Settings, told: str, end: Connection, parent: int) -> None:
     """Runs a file, keeps in the file `told` what is printed, and sends why it failed, or nothing."""
-    tools.die_with(parent)
+    tools.begin_process(parent)
     with open(told, "w", encoding="utf-8", errors="surrogateescape") as file:
         lines = RunLines(path, True, lambda line: print(line, file=file, flush=True))
         try:
@@ -181,9 +181,10 @@ class Watch:
             out, told = os.path.join(made, "page"), os.path.join(made, "told")
             process = multiprocessing.get_context("fork").Process(
                 target=run_file, args=(self.path(name), out, self.settings, told, theirs, os.getpid()))
-            process.start()
-            theirs.close()
             try:
+                with tools.signals_wait():
+                    process.start()
+                theirs.close()
                 while process.is_alive() and not ours.poll():
                     self.hear(stream, TICK)
                 why: str = ours.recv()
@@ -192,8 +193,9 @@ class Watch:
                 process.join()
                 why = f"press-all ended with {process.exitcode}"
             finally:
-                process.terminate()
-                process.join()
+                if process.pid is not None:
+                    process.terminate()
+                    process.join()
             self.put_away(name, made, why)
 
     def put_away(self, name: str, made: str, why: str) -> None:
