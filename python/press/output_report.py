@@ -1,0 +1,78 @@
+# SPDX-License-Identifier: Apache-2.0
+"""The report in JSON beside each output: its inks and their coverage, what trapping changed, and digests."""
+import contextlib
+import hashlib
+import json
+import os
+from collections.abc import Iterator, Mapping
+from typing import Any
+
+import numpy as np
+
+from .command import version
+from .files import need_room, write_text
+from .names import readable
+from .plates import Array
+from .trapped_page import TrappedPage
+
+ROWS = 1024
+
+
+@contextlib.contextmanager
+def full_disk_refused(folder: str, what: str) -> Iterator[None]:
+    """Gives the system's own reason where a library says of a full disk something else."""
+    try:
+        yield
+    except (OSError, RuntimeError):
+        need_room(folder, what)
+        raise
+
+
+def digest_of(path: str) -> str:
+    """The SHA-256 of a file."""
+    found = hashlib.sha256()
+    with open(path, "rb") as file:
+        while block := file.read(1 << 20):
+            found.update(block)
+    return found.hexdigest()
+
+
+def coverage(plate: Array) -> float:
+    """The mean tint of a plate of 8 bits, in per cent."""
+    total = sum(int((255 - plate[top:top + ROWS].astype(np.int64)).sum()) for top in range(0, plate.shape[0], ROWS))
+    return round(total * 100 / 255 / max(1, plate.size), 3)
+
+
+def changed(before: Array, after: Array) -> int:
+    """How many pixels of a plate trapping changed."""
+    return sum(int(np.count_nonzero(before[top:top + ROWS] != after[top:top + ROWS]))
+               for top in range(0, after.shape[0], ROWS))
+
+
+def ink_figures(page: TrappedPage) -> list[dict[str, Any]]:
+    """For each ink its names, its coverage in per cent, and how many pixels of its plate trapping changed."""
+    return [{"name": readable(ink.colorant), "job_name": ink.name, "coverage": coverage(after),
+             "changed": changed(before, after)}
+            for ink, before, after in zip(page.folder.inks, page.before.arrays, page.after.arrays)]
+
+
+def page_figures(page: TrappedPage) -> dict[str, Any]:
+    """What is said of a page."""
+    return {"page": page.number, "resolution": page.dpi, "width": page.size[0], "height": page.size[1],
+            "inks": ink_figures(page)}
+
+
+def file_figures(path: str, name: str) -> dict[str, Any]:
+    """What is said of a file, under its final name."""
+    return {"file": name, "bytes": os.path.getsize(path), "sha256": digest_of(path)}
+
+
+def write_report(path: str, command: str, figures: Mapping[str, Any]) -> None:
+    """Writes a report as a whole."""
+    told = {"command": command, "version": version(), **figures}
+    write_text(path, json.dumps(told, indent=1, ensure_ascii=False) + "\n", errors="surrogateescape")
+
+
+def report_name(path: str) -> str:
+    """The name of the report beside a file."""
+    return os.path.splitext(path)[0] + ".json"

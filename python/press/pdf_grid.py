@@ -1,0 +1,130 @@
+# SPDX-License-Identifier: Apache-2.0
+"""The plates' grid on a PDF page: the box that was drawn, and the matrix from pixels to the page's user space."""
+from dataclasses import dataclass
+from typing import Any
+
+import pikepdf
+
+from .errors import PressError, Status
+
+BOXES = {"media": "/MediaBox", "crop": "/CropBox", "bleed": "/BleedBox", "trim": "/TrimBox", "art": "/ArtBox"}
+ANCHORS = ("top", "bottom")
+DEEPEST_TREE = 64
+LETTER = (0.0, 0.0, 612.0, 792.0)
+
+
+@dataclass(frozen=True)
+class Box:
+    """A box of a page in points."""
+
+    left: float
+    lower: float
+    right: float
+    upper: float
+
+
+def inherited(page: pikepdf.Page, name: str) -> Any:
+    """A value of the page, or of the nodes above it in the page tree; None if none has it."""
+    node, depth = page.obj, 0
+    while isinstance(node, pikepdf.Dictionary) and depth < DEEPEST_TREE:
+        if name in node:
+            return node[name]
+        node, depth = node.get("/Parent"), depth + 1
+    return None
+
+
+def inherited_number(page: pikepdf.Page, name: str, otherwise: float) -> float:
+    """A number of the page or of the page tree, or another one if it has none."""
+    try:
+        return float(inherited(page, name))
+    except (TypeError, ValueError):
+        return otherwise
+
+
+def read_box(page: pikepdf.Page, name: str) -> Box | None:
+    """A box by its name in the PDF, if the page has it and it has four numbers."""
+    value = inherited(page, name)
+    if not isinstance(value, pikepdf.Array) or len(value) != 4:
+        return None
+    try:
+        one, two, three, four = (float(side) for side in list(value))
+    except (TypeError, ValueError):
+        return None
+    return Box(min(one, three), min(two, four), max(one, three), max(two, four))
+
+
+def box_of(page: pikepdf.Page, box: str) -> Box:
+    """The box that is drawn, within the media box. A page that lacks it has its crop box drawn, or else its media
+    box."""
+    media = read_box(page, "/MediaBox") or Box(*LETTER)
+    one = media if box == "media" else read_box(page, BOXES[box]) or read_box(page, "/CropBox") or media
+    within = Box(max(one.left, media.left), max(one.lower, media.lower), min(one.right, media.right),
+                 min(one.upper, media.upper))
+    return within if within.left < within.right and within.lower < within.upper else media
+
+
+def rotation(page: pikepdf.Page) -> int:
+    """By how many degrees the page is turned clockwise: 0, 90, 180 or 270."""
+    turn = int(inherited_number(page, "/Rotate", 0)) % 360
+    return turn if turn % 90 == 0 else 0
+
+
+def user_unit(page: pikepdf.Page) -> float:
+    """How many points a unit of the page is."""
+    try:
+        unit = float(page.obj.get("/UserUnit", 1))
+    except (TypeError, ValueError):
+        return 1
+    return unit if unit > 0 else 1
+
+
+def size_in_pixels(page: pikepdf.Page, box: str, dpi: float) -> tuple[float, float]:
+    """The width and the height of the page as it is seen, in pixels that need not be whole."""
+    sides = box_of(page, box)
+    width, height = sides.right - sides.left, sides.upper - sides.lower
+    scale = dpi * user_unit(page) / 72
+    return (height * scale, width * scale) if rotation(page) % 180 else (width * scale, height * scale)
+
+
+def fits(page: pikepdf.Page, box: str, dpi: float, size: tuple[int, int]) -> bool:
+    """Whether plates of that width and height may be of this box."""
+    return all(abs(one - other) < 1.01 for one, other in zip(size_in_pixels(page, box, dpi), size))
+
+
+def box_of_plates(page: pikepdf.Page, number: int, dpi: float, size: tuple[int, int]) -> str:
+    """The box whose size the plates have, the media box before others. Boxes of one size and place are one."""
+    found = [box for box in BOXES if fits(page, box, dpi, size)]
+    places = {box_of(page, box) for box in found}
+    if not found:
+        width, height = size_in_pixels(page, "media", dpi)
+        raise PressError(Status.PLATES, f"the plates have {size[0]} by {size[1]} pixels, and the page at {dpi:g} dpi "
+                         f"has {width:.1f} by {height:.1f}: they are no plates of this page", f"page {number}")
+    if found[0] != "media" and len(places) > 1:
+        raise PressError(Status.USAGE, f"the plates may be of the boxes {', '.join(found)}: say which by --box",
+                         f"page {number}")
+    return found[0]
+
+
+def grid_matrix(page: pikepdf.Page, box: str, dpi: float, height: int, anchor: str) -> list[float]:
+    """The matrix from pixels, x to the right and y up from the page's lower edge, to the page's user space.
+
+    Ghostscript lays its grid from the lower left corner of the page as it is seen. If the height is no whole number
+    of pixels, the odd part is at the top; but it paints those pixels of an image whose centres it hits, so the grid
+    may be off by less than half a pixel. MuPDF and Poppler lay the grid from the upper left corner, and need it
+    exactly.
+    """
+    sides = box_of(page, box)
+    turn = rotation(page)
+    seen_height = sides.right - sides.left if turn % 180 else sides.upper - sides.lower
+    step = 72 / (dpi * user_unit(page))
+    shift = seen_height - height * step if anchor == "top" else 0.0
+    corner = {0: (sides.left, sides.lower + shift), 90: (sides.right - shift, sides.lower),
+              180: (sides.right, sides.upper - shift), 270: (sides.left + shift, sides.upper)}[turn]
+    across = {0: (step, 0.0), 90: (0.0, step), 180: (-step, 0.0), 270: (0.0, -step)}[turn]
+    upward = {0: (0.0, step), 90: (-step, 0.0), 180: (0.0, -step), 270: (step, 0.0)}[turn]
+    return [*across, *upward, *corner]
+
+
+def plain_number(value: float) -> str:
+    """A number as PDF spells it, without an exponent."""
+    return f"{value:.9f}".rstrip("0").rstrip(".") if abs(value) > 1e-6 else "0"
