@@ -8,6 +8,7 @@ from typing import Any
 import numpy as np
 import pytest
 import tifffile
+from PIL import Image
 from pdf_cases import ART, files_in, folders_of, killed_at_rename, one_page, run_command, run_with_room, saved
 
 from press.errors import PressError, UsageError
@@ -129,7 +130,7 @@ def test_thresholds_give_each_tint_its_pixels() -> None:
             tint = 100 * (255 - gray) / 255
             wanted = printed(tint, used, least)
             assert abs((gray < array).mean() * 100 - wanted) <= 50 / size
-            assert ((255 - gray) < negative(array)).mean() == 1 - (gray < array).mean()
+            assert np.array_equal((255 - gray) < negative(array), ~(gray < array))
     assert printed(0, curve, 3) == 0 and printed(1, LINEAR, 3) == 3 and printed(50, curve, 3) == 38
 
 
@@ -201,7 +202,7 @@ def test_angles_frequencies_and_beat_by_the_spectrum(tmp_path: Path) -> None:
     strong inks is below 0.05 lines per inch."""
     screens = usual_screens(INKS, {}, InkScreen(Screen(0, LPI)))
     screened, _ = plan(INKS, screens, DPI)
-    plate = np.full((300, 300), 153, np.uint8)
+    plate = np.full((200, 200), 153, np.uint8)
     vectors = {}
     for one in screened:
         found = bits(plate, one, Imaging(300, DPI), tmp_path)
@@ -344,19 +345,22 @@ def test_the_command(page: Path, tmp_path: Path) -> None:
     """It prints each ink's screen and the beat, and warns of a line of a table that is of no ink."""
     (tmp_path / "house.screens").write_text("Cyan\t30\nSilver\t45\n")
     done = run_command("screen", page, tmp_path / "out", "--dpi", "600", "--lpi", "75", "--screens",
-                       tmp_path / "house.screens")
+                       tmp_path / "house.screens", "--look", tmp_path / "dots.png", "--part", "30,20,60,40")
     assert done.returncode == 0, done
     lines = done.stdout.splitlines()
-    assert lines[0].startswith("Cyan: 30.0") and lines[3].startswith("Black: 45.0")
+    assert abs(float(lines[0].split()[1]) - 30) <= 0.01 and abs(float(lines[3].split()[1]) - 45) <= 0.01
     assert lines[-1].startswith("beat of cyan, ")
     assert len(lines) == 7 and "no ink of the page is called Silver" in done.stderr
+    with Image.open(tmp_path / "dots.png") as image:
+        assert image.size == (500, 333) and len(image.getcolors()) > 4
 
 
 @pytest.mark.parametrize("words, why", [
     (["--lpi", "5"], "--lpi is a number from 10 to 600"),
     (["--shape", "star"], "--shape is one of round, elliptic, line"),
     (["--angles", "Q1"], "--angles is C15,M75,Y0,K45"), (["--min-dot", "x"], "--min-dot is a number"),
-    (["--name", "a/b"], "--name is a file's name"), (["more"], "a word too many")])
+    (["--name", "a/b"], "--name is a file's name"), (["more"], "a word too many"),
+    (["--part", "most"], "--part is of --look"), (["--look", "x.jpg"], "a picture is a PNG file")])
 def test_wrong_words(page: Path, tmp_path: Path, words: list[str], why: str) -> None:
     """A usage error in one line, and nothing is made."""
     done = run_command("screen", page, tmp_path / "out", *words)

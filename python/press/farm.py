@@ -18,6 +18,7 @@ from .findings import WARNING, refusal_for
 from .folder import JobFolder
 from .inks import open_book
 from .names import MOST_PLATES, PROCESS
+from .pdf_beside import write_for
 from .plates import MOST_SAMPLES
 from .printing import FarmLines
 from .proof import write_sheet_of_all
@@ -272,4 +273,16 @@ def run_farm(farm: Farm, progress: FarmLines) -> Status:
         if farm.settings.proof:
             with contextlib.suppress(PressError):
                 write_sheet_of_all(farm.out, ())
-    return Status.PAGES_FAILED if status or lost else Status.DONE
+        has_pdf = not farm.settings.pdf or write_pdf(farm, progress)
+    return Status.PAGES_FAILED if status or lost or not has_pdf else Status.DONE
+
+
+def write_pdf(farm: Farm, progress: Progress) -> bool:
+    """The trapped PDF of all pages that are done. Answers whether there is one."""
+    try:
+        for line in write_for(farm.path, farm.out, farm.settings):
+            progress.warn(f"{farm.path}: {line}")
+        return True
+    except PressError as refusal:
+        progress.warn(f"no trapped PDF: {refusal}")
+        return False

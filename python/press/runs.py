@@ -14,7 +14,7 @@ from collections.abc import Iterator, Sequence
 from dataclasses import dataclass
 from multiprocessing.connection import Connection
 
-from . import engine, look, page as pages_of_source, preflight, proof, tiff, tools
+from . import engine, look, page as pages_of_source, pdf_beside, preflight, proof, tiff, tools
 from .errors import PressError, Status, reason
 from .events import (Event, FindingMade, Observer, PageDone, PageFailed, RunDone, RunStarted, StepDone, StepStarted,
                      Warned, silent)
@@ -36,6 +36,8 @@ class RunResult:
 
     pages: dict[int, PageDone | PageFailed]
     findings: tuple[Finding, ...]
+    # Why there is no trapped PDF, if one was asked for.
+    no_pdf: str | None = None
 
     @property
     def failed(self) -> tuple[int, ...]:
@@ -45,7 +47,7 @@ class RunResult:
     @property
     def status(self) -> Status:
         """The status of a command that made this run."""
-        return Status.PAGES_FAILED if self.failed else Status.DONE
+        return Status.PAGES_FAILED if self.failed or self.no_pdf else Status.DONE
 
 
 @contextlib.contextmanager
@@ -343,9 +345,22 @@ def run(path: str, out: str, settings: Settings = Settings(), pages: Sequence[in
             ends = do_pages(todo, settings.jobs, tell)
             if settings.proof and not is_one_of_many():
                 make_sheet(out, observer)
-    result = RunResult(ends, tuple(findings))
+            no_pdf = make_pdf(source, out, settings, observer) if settings.pdf and not is_one_of_many() else None
+    result = RunResult(ends, tuple(findings), no_pdf)
     observer(RunDone(result.failed))
     return result
+
+
+def make_pdf(source: Source, out: str, settings: Settings, observer: Observer) -> str | None:
+    """The trapped PDF of all pages that are done. Answers why there is none."""
+    observer(StepStarted(None, "trapped PDF"))
+    try:
+        for line in pdf_beside.write_beside(source, out, settings):
+            observer(Warned(None, "press-pdf", f"{source.path}: {line}"))
+        return None
+    except PressError as refusal:
+        observer(Warned(None, "press-pdf", f"no trapped PDF: {refusal}"))
+        return str(refusal)
 
 
 def make_sheet(out: str, observer: Observer) -> None:

@@ -200,6 +200,7 @@ class Settings:
     # Outputs.
     channels: bool = False
     tiff_only: bool = False
+    pdf: bool = False
     proof: bool = True
     look: bool = False
     # A run: whether warnings refuse a page, and how many pages are done at once.
@@ -216,6 +217,8 @@ class Settings:
                   if name in names and value is not None}
         words = {name: given.get(name) for name in ("preset", *(name.replace("-", "_") for name in PARAMETERS))}
         settings = cls(**values, parameters=parameters(**words))
+        if settings.pdf and settings.tiff_only:
+            raise UsageError("--pdf and --tiff-only do not go together: a trapped PDF is made of plates")
         if settings.icc:
             head_of(settings.icc)
         return settings
@@ -351,6 +354,8 @@ def add_run_options(parser: argparse.ArgumentParser) -> None:
     add = parser.add_argument
     add("--tiff-only", action="store_true", default=None,
         help="keeps no plates of a page that is done, but its TIFF files, job, report, table and proof")
+    add("--pdf", action="store_true", default=None,
+        help="makes a trapped PDF of all pages that are done too, OUT/NAME-trapped.pdf, as press/pdf does")
     add("--no-proof", dest="proof", action="store_false", default=None, help="makes no proof sheet")
     add("--look", action="store_true", default=None,
         help="draws pictures of each page too, by press/look: page.png, traps.png, and register.png, the part with "
