@@ -348,7 +348,7 @@ def test_the_command(page: Path, tmp_path: Path) -> None:
                        tmp_path / "house.screens", "--look", tmp_path / "dots.png", "--part", "30,20,60,40")
     assert done.returncode == 0, done
     lines = done.stdout.splitlines()
-    assert abs(float(lines[0].split()[1]) - 30) <= 0.01 and abs(float(lines[3].split()[1]) - 45) <= 0.01
+    assert abs(float(lines[0].split()[1]) - 30) < 0.011 and abs(float(lines[3].split()[1]) - 45) < 0.011
     assert lines[-1].startswith("beat of cyan, ")
     assert len(lines) == 7 and "no ink of the page is called Silver" in done.stderr
     with Image.open(tmp_path / "dots.png") as image:
