@@ -277,7 +277,7 @@ def run_farm(farm: Farm, progress: FarmLines) -> Status:
     return Status.PAGES_FAILED if status or lost or not has_pdf else Status.DONE
 
 
-def write_pdf(farm: Farm, progress: Progress) -> bool:
+def write_pdf(farm: Farm, progress: FarmLines) -> bool:
     """The trapped PDF of all pages that are done. Answers whether there is one."""
     try:
         for line in write_for(farm.path, farm.out, farm.settings):
