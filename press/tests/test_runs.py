@@ -1,9 +1,11 @@
 # SPDX-License-Identifier: Apache-2.0
 """Runs from Python: events, pages at once, and pages whose process is lost."""
 import os
+import signal
 from pathlib import Path
 
 import pytest
+from press import tools
 from press.events import Event, PageDone, PageFailed, RunDone, RunStarted, StepDone
 from press.runs import run
 from press.settings import Settings
@@ -69,3 +71,16 @@ def test_page_that_fails_is_in_the_result(room: Room, monkeypatch: pytest.Monkey
     failed = result.pages[2]
     assert result.failed == (2,) and isinstance(failed, PageFailed) and failed.status == 9
     assert failed.why.startswith("press-check: three.pdf: page 2: three.2.zones: line 1: the program refuses it: ")
+
+
+def test_signals_wait_while_a_process_is_forked() -> None:
+    """A signal that arrives in the block is handled when the block is left."""
+    handled: list[int] = []
+    before = signal.signal(signal.SIGTERM, lambda number, _: handled.append(number))
+    try:
+        with tools.signals_wait():
+            os.kill(os.getpid(), signal.SIGTERM)
+            assert not handled
+        assert handled == [signal.SIGTERM]
+    finally:
+        signal.signal(signal.SIGTERM, before)
