@@ -15,7 +15,7 @@ from typing import Any
 from . import tools
 from .errors import PressError, Status
 from .files import folder_beside, link_or_copy, need_room, put_folder
-from .folder import CHECK, JOB, JSON, REPORT, TRAPPED, ZONES, PageFolder
+from .folder import CHECK, JOB, JSON, REPORT, TRAPPED, PageFolder, read_layout
 from .inks import Ink
 from .job import Job, file_place, job_place
 from .names import readable
@@ -192,7 +192,7 @@ def check(page: PageFolder, out: str, radius: int) -> tuple[str, ...]:
 def json_of(ink: Ink, report: Report) -> dict[str, Any]:
     """An ink of a page, as report.json has it."""
     return {"ink": readable(ink.colorant), "name": ink.name, "density": float(ink.density), "kind": ink.kind,
-            "has_ink": ink.has_ink, "changed": report.plates.get(ink.name, 0)}
+            "role": ink.role, "has_ink": ink.has_ink, "changed": report.plates.get(ink.name, 0)}
 
 
 def write_json(page: PageFolder, report: Report, made: str) -> None:
@@ -205,8 +205,9 @@ def write_json(page: PageFolder, report: Report, made: str) -> None:
     with contextlib.suppress(FileNotFoundError), open(os.path.join(made, CHECK), encoding="utf-8") as file:
         counted = dict(line.split() for line in file if len(line.split()) == 2)
         text["check"] = {key: int(counted[key]) for key in ("radius", "before", "after") if key in counted}
-    with contextlib.suppress(FileNotFoundError), open(page.file(ZONES), encoding="utf-8") as file:
-        text["layout"] = json.load(file)
+    layout = read_layout(page)
+    if layout:
+        text["layout"] = layout
     with open(os.path.join(made, JSON), "w", encoding="utf-8") as file:
         json.dump(text, file, indent=1)
         file.write("\n")

@@ -1,10 +1,12 @@
 # SPDX-License-Identifier: Apache-2.0
 """The folder of a page, and the folder OUT of a run: the names of their files, and what stands in them."""
 import dataclasses
+import json
 import os
 import re
 import shutil
 from dataclasses import dataclass
+from typing import Any
 
 from . import plates
 from .errors import PressError, Status, reason
@@ -19,7 +21,8 @@ TIFF, WARNINGS, WHY, PART, SHEET = "tiff", "warnings.txt", "why", "proof.part", 
 NO_PLATES = "no plates here (press/plates makes such a folder)"
 TABLE_HEAD = """\
 # The colorants that were found on a page. Of each: its name in the job, its neutral density, its kind, the process
-# inks that look like it in hundredths, whether its plate has ink, its name in tiffsep's file names, and in the PDF.
+# inks that look like it in hundredths, whether its plate has ink, its name in tiffsep's file names, and in the PDF, and
+# its role.
 """
 
 
@@ -88,7 +91,8 @@ def write_table(path: str, source: PageSource, inks: tuple[Ink, ...]) -> None:
     lines = [f"pdf\t{table_name(source.pdf)}", f"page\t{source.page}", f"resolution\t{source.resolution}"]
     for ink in inks:
         lines.append("\t".join(("colorant", ink.name, ink.density, ink.kind, " ".join(f"{part:g}" for part in ink.look),
-                                "ink" if ink.has_ink else "blank", table_name(ink.suffix), table_name(ink.colorant))))
+                                "ink" if ink.has_ink else "blank", table_name(ink.suffix), table_name(ink.colorant),
+                                ink.role)))
     with open(os.path.join(path, TABLE), "w", encoding="utf-8") as file:
         file.write(TABLE_HEAD + "\n".join(lines) + "\n")
 
@@ -122,7 +126,17 @@ def ink_of(line: list[str]) -> Ink:
     _, name, density, kind, look_text, has_ink, suffix, colorant = line[:8]
     cyan, magenta, yellow, black = (float(part) for part in look_text.split())
     look = cyan, magenta, yellow, black
-    return Ink(name, from_table(colorant), from_table(suffix), density, kind, look, has_ink == "ink")
+    role = line[8] if len(line) > 8 else "spot"
+    return Ink(name, from_table(colorant), from_table(suffix), density, kind, look, has_ink == "ink", role=role)
+
+
+def read_layout(page: PageFolder) -> dict[str, Any]:
+    """What the zones of a page's job are made of; nothing for a page of an earlier version."""
+    try:
+        found = json.loads(read_text(page.file(ZONES)) or "{}")
+    except ValueError as fault:
+        raise PressError(Status.INPUT, "no layout of a page", page.file(ZONES)) from fault
+    return found if isinstance(found, dict) else {}
 
 
 # The folder of a run

@@ -15,7 +15,7 @@ from PIL import Image, ImageCms
 
 from . import job
 from .errors import PressError, Status, reason
-from .folder import JOB, PageFolder
+from .folder import JOB, PageFolder, read_layout
 from .inks import Look
 from .names import PROCESS, readable
 from .plates import Array
@@ -24,6 +24,8 @@ from .tables import is_seen
 Part = tuple[int, int, int, int]
 Shift = tuple[int, int]
 Light = tuple[int, int, int]
+# Widths that differ by less, in points, are one.
+SAME_WIDTH = 0.0002
 # Of red, green and blue light, what paper under full ink gives back, in 255ths.
 LIGHTS = ((0, 166, 232), (232, 20, 134), (255, 238, 20), (36, 32, 34))
 BAND_ROWS, MOST_POINTS = 256, 2000
@@ -222,10 +224,13 @@ def thickened(where: Array, times: int) -> Array:
 # Widths
 
 def trap_width(page: PageFolder) -> float:
-    """How many samples wide the page's traps are: of its narrowest zone that is trapped at all; 0 if none is."""
+    """How many samples wide the page's traps are: of its narrowest zone that is trapped at all, but for those of thin
+    strokes; 0 if none is."""
     with open(page.file(JOB), "rb") as file:
         zones = job.read(file.read()).zones
-    widths = [zone.width * page.source.resolution / 72 for zone in zones if zone.enabled]
+    thin = {place[0] for place in read_layout(page).get("thin", {}).get("places", ())}
+    widths = [zone.width * page.source.resolution / 72 for zone in zones
+              if zone.enabled and not any(abs(zone.width - one) < SAME_WIDTH for one in thin)]
     return min((width for width in widths if width >= 1), default=0.0)
 
 

@@ -16,7 +16,7 @@ from .engine import Report, read_report
 from .errors import PressError, Status
 from .files import whole_file, write_text
 from .folder import (JOB, JSON, NO_PLATES, PART, REPORT, SHEET, TABLE, TRAPPED, WARNINGS, JobFolder, PageFolder,
-                     read_table, read_text)
+                     read_layout, read_table, read_text)
 from .names import readable
 from .picture import Light, Painter, Part, mean_of, pale, shifted, thickened, trap_width
 from .plates import Array
@@ -215,7 +215,8 @@ def page_text(page: PageFolder) -> str:
         warnings_text(page.path), "<h3>Before and after</h3>", slider_text(before, after), register_text(sheet),
         f"<h3>Traps</h3><p>Where ink was added, thickened, in its colour: {legend or 'nowhere'}</p>"
         f"{image(traps, 'the traps')}", map_text(sheet, bare), plates_text(sheet), "<h3>Inks</h3>", inks,
-        "<h3>Zones</h3>", zones, f"<h3>The job</h3><pre>{escaped(read_text(page.file(JOB)))}</pre>", "</section>"])
+        "<h3>Zones</h3>", zones, thin_text(sheet, before), coverage_text(page),
+        f"<h3>The job</h3><pre>{escaped(read_text(page.file(JOB)))}</pre>", "</section>"])
 
 
 def add_to_json(sheet: Sheet) -> None:
@@ -287,6 +288,35 @@ def plates_text(sheet: Sheet) -> str:
                       f"{escaped(readable(ink.colorant))}</figcaption></figure>"
                       for ink, plane in zip(sheet.page.inks, sheet.painter.after))
     return f'<h3>Plates</h3><div class="plates">{figures}</div>'
+
+
+def thin_text(sheet: Sheet, picture: Array) -> str:
+    """Where thin strokes have zones of their own, and what these leave of their colour."""
+    thin = read_layout(sheet.page).get("thin")
+    if not thin or not thin["zones"]:
+        return ""
+    marked, scale = pale(picture), sheet.page.source.resolution / 72 / sheet.times
+    height = sheet.page.head.height / sheet.times
+    for _, left, lower, right, upper in thin["places"]:
+        rows = max(0, int(height - upper * scale)), min(marked.shape[0] - 1, int(height - lower * scale))
+        columns = max(0, int(left * scale)), min(marked.shape[1] - 1, int(right * scale))
+        if rows[0] <= rows[1] and columns[0] <= columns[1]:
+            marked[rows[0]:rows[1] + 1, columns] = BLUE
+            marked[rows, columns[0]:columns[1] + 1] = BLUE
+    before, after = (f"{100 * thin[key]:.0f}%" for key in ("own_before", "own_after"))
+    return (f"<h3>Small type and thin lines</h3><p>{thin['parts']:,} thin strokes in {thin['lines']:,} lines have "
+            f"narrower traps, in {swatch(BLUE)}zones of their own: {after} of their colour is left. With the page's "
+            f"trap width it would be {before}.</p>{image(marked, 'zones of thin strokes')}")
+
+
+def coverage_text(page: PageFolder) -> str:
+    """How much ink the page takes."""
+    layout = read_layout(page)
+    if "coverage" not in layout:
+        return ""
+    names = {ink.name: readable(ink.colorant) for ink in page.inks}
+    rows = [(long(names.get(name, name)), f"{share:.1f}%") for name, share in layout["coverage"].items()]
+    return f"<h3>Ink coverage</h3><p>At most {layout['total_ink']:.0f}% in one place.</p>{table(['ink', 'mean'], rows)}"
 
 
 def ink_rows(sheet: Sheet, report: Report) -> Iterator[Sequence[str | int]]:

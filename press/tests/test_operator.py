@@ -1,0 +1,108 @@
+# SPDX-License-Identifier: Apache-2.0
+"""What an operator would send back, on whole pages by the commands: small type, marks, metals, white, zones files."""
+import json
+import re
+from pathlib import Path
+
+import numpy as np
+import pytest
+from room import TOP, Room, needs
+
+from press.folder import PageFolder
+
+pytestmark = pytest.mark.slow
+INPUTS = Path(__file__).resolve().parent / "inputs"
+
+
+def trapped(room: Room, name: str, *options: str) -> tuple[PageFolder, np.ndarray, np.ndarray]:
+    """A page, and its tints before and after trapping, by plate."""
+    room.goes("plates", INPUTS / f"{name}.pdf", "page", *options)
+    room.goes("trap", "page")
+    page = PageFolder.read(str(room / "page"))
+    before, after = (np.stack([255 - array for array in page.plates(done).arrays]) for done in (False, True))
+    return page, before, after
+
+
+def own_of_blue(before: np.ndarray, after: np.ndarray) -> float:
+    """How much of the blue type keeps its colour: cyan and magenta, and none of black."""
+    blue = (before[0] > 200) & (before[1] > 100) & (before[3] < 100)
+    return 1 - float(((before != after).any(axis=0) & blue).sum() / blue.sum())
+
+
+@pytest.mark.parametrize("preset, least", [("offset", 0.46), ("flexo", 0.54)])
+def test_small_type_keeps_its_colour(room: Room, built: None, preset: str, least: float) -> None:
+    """Blue 4.5 pt type on red, and the report's own figure of it."""
+    page, before, after = trapped(room, "label-white-varnish", "--preset", preset)
+    assert own_of_blue(before, after) >= least
+    thin = json.loads(Path(page.file("trapped", "report.json")).read_text(encoding="utf-8"))["layout"]["thin"]
+    assert thin["own_before"] < thin["own_after"] and thin["zones"] >= 2 and thin["parts"] > 80
+
+
+def test_without_thin_zones_it_does_not(room: Room, built: None) -> None:
+    _, before, after = trapped(room, "label-white-varnish", "--preset", "flexo", "--no-thin-zones", "--dpi", "300")
+    assert own_of_blue(before, after) < 0.05
+
+
+def test_marks_and_colour_bars_stay(room: Room, built: None) -> None:
+    """No sample outside the trim box changes; with --trap-within media many do."""
+    for options, is_kept in (((), True), (("--trap-within", "media"), False)):
+        _, before, after = trapped(room, "scribus-x4", "--dpi", "150", "--force", *options)
+        changed = (before != after).any(axis=0)
+        height, width = changed.shape
+        margin = int(20 * 150 / 72)
+        changed[margin:height - margin, margin:width - margin] = False
+        assert (not changed.any()) == is_kept
+
+
+def test_neighbours_spread_under_silver(room: Room, built: None) -> None:
+    """Dark blue is spread under it; silver itself is not."""
+    page, before, after = trapped(room, "rl-card-mm", "--dpi", "300")
+    changed = {ink.name: int((before[at] != after[at]).sum()) for at, ink in enumerate(page.inks)}
+    assert changed["PANTONE_287_C"] > 1000 and changed["PANTONE_877_C"] == 0
+
+
+def test_inks_that_no_trap_closes_are_warned_of(room: Room) -> None:
+    """As a silver that is taken for lighter than its neighbour."""
+    told = room.goes("check", INPUTS / "rl-card-mm.pdf", "--density", "PANTONE 877 C=0.58").out
+    assert re.search(r"warning: untrapped-inks: PANTONE 877 C and PANTONE 287 C meet along \d+ edges", told), told
+    assert "untrapped-inks" not in room.goes("check", INPUTS / "rl-card-mm.pdf").out
+
+
+def test_white_spreads_under_colours(room: Room, built: None) -> None:
+    """White that is knocked out of a colour."""
+    page, before, after = trapped(room, "label-white-varnish", "--dpi", "200")
+    white = [ink.name for ink in page.inks].index("White_Underprint")
+    assert page.inks[white].role == "white" and int((before[white] < after[white]).sum()) > 100
+
+
+@needs("mutool")
+def test_layers_by_name(room: Room, built: None) -> None:
+    """A layer that is off by option is not trapped; one that is not there is warned of."""
+    _, before, after = trapped(room, "layers", "--dpi", "200")
+    assert (before != after).any()
+    options = "--layer", "Print=off", "--layer", "Screen only=off"
+    room.goes("plates", INPUTS / "layers.pdf", "off", "--dpi", "200", *options)
+    assert "/Enabled false" in (room / "off" / "page.job").read_text()
+    assert "no layer Pint paints" in room.goes("check", INPUTS / "layers.pdf", "--layer", "Pint=off").out
+
+
+def test_inks_are_merged_and_dropped(room: Room) -> None:
+    room.goes("plates", INPUTS / "rl-card-mm.pdf", "page", "--dpi", "72", "--merge", "PANTONE 877 C=PANTONE 287 C")
+    assert not (room / "page" / "PANTONE_877_C.pgm").exists() and (room / "page" / "PANTONE_287_C.pgm").exists()
+    room.goes("plates", INPUTS / "rl-card-mm.pdf", "less", "--dpi", "72", "--drop", "PANTONE 877 C", "--to-process",
+              "PANTONE 287 C")
+    assert sorted(path.stem for path in (room / "less").glob("*.pgm")) == ["Black", "Cyan", "Magenta", "Yellow"]
+
+
+def test_the_documents_example_keeps_the_page(room: Room, built: None) -> None:
+    """The panel's zone of docs/PRESS.md adds to the page: other traps stay."""
+    label = TOP / "examples" / "label" / "label.pdf"
+    room.write("own.zones", "<< /TrapWidth 0.15 /TrapColorScaling 0.5 >> settrapparams\n"
+                            "12 96 moveto 132 0 rlineto 0 60 rlineto -132 0 rlineto settrapzone\n")
+    counts = []
+    for name, options in (("all", ("--no-thin-zones",)), ("only", ("--only-zones",))):
+        room.goes("plates", label, name, "--dpi", "300", "--zones", "own.zones", *options)
+        room.goes("trap", name)
+        report = json.loads((room / name / "trapped" / "report.json").read_text())
+        counts.append(report["samples_changed"])
+    assert counts[0] > 3 * counts[1]
