@@ -64,7 +64,7 @@ def tag_values(data: bytes, order: str, kind: int, count: int, place: int) -> An
 
 
 def colorants(folder: Path) -> list[list[str]]:
-    """The rows of a page's table: name, density, kind, look, ink, file, colorant."""
+    """The rows of a page's table: name, density, kind, look, ink, file, colorant, role."""
     lines = (folder / "colorants.txt").read_text().splitlines()
     return [line.split("\t")[1:] for line in lines if line.startswith("colorant\t")]
 

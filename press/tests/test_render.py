@@ -64,7 +64,7 @@ def test_spelling_of_names(room: Room) -> None:
         assert (room / "odd" / f"{name}.pgm").is_file(), name
         assert any(f"     /{name} << /NeutralDensity {density} >>  % " in job for density in ("0.98", "0.78")), name
     row = next(row for row in colorants(room / "odd") if row[0] == "100___matt_")
-    assert row[-2:] == ["100%25 (matt)", "100% (matt)"]
+    assert row[-3:] == ["100%25 (matt)", "100% (matt)", "spot"]
     assert [file.name for file in (room / "odd").glob("x*.pgm")] == ["x" * 64 + ".pgm"]
 
 
