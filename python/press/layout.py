@@ -20,6 +20,7 @@ from .inks import Ink
 from .job import Statement, read_all
 from .job_language import KEYS, SCALE, Parameters
 from .marks import above
+from .pairs import pair_places, read_pairs
 from .plates import Plates
 from .rects import NOTHING, Rect
 from .regions import box_on_page
@@ -30,7 +31,7 @@ from .strokes import Ink as StrokeInk
 from .strokes import Rule
 from .thin import Line, boxes_by_width, narrow_lines, own_share
 from .trace import Trace
-from .zones import IMAGES, LAYERS, OWNER, TRIM, Composed, Layer, Wanted, base_rule, compose, reach
+from .zones import IMAGES, LAYERS, OWNER, TRIM, Composed, Layer, Pair, Wanted, base_rule, compose, reach
 
 BIG = 255
 # From this share of a page on it is warned that it is not trapped.
@@ -113,11 +114,11 @@ def lay_out(own: Sequence[Statement], info: PageInfo | None, trace: Trace | None
                                                  plates.height * 72 / plates.resolution)
     within, box = trap_box(info, settings)
     places, over = image_places(own, info, trace, settings)
-    wanted = Wanted(size, within, box, tuple(layer_zones(info, trace, settings)), {}, tuple(places), tuple(over),
-                    settings.only_zones)
+    rule = base_rule(own)
+    wanted = Wanted(size, within, box, tuple(layer_zones(info, trace, settings)), {},
+                    tuple(pair_zones(plates, inks, rule, settings)), tuple(places), tuple(over), settings.only_zones)
     if not settings.thin_zones:
         return finished(compose(own, wanted), None)
-    rule = base_rule(own)
     skip = [pixels_of(place, size, plates) for place in places] if not over else []
     lines, parts = strokes_of(plates, inks, rule, skip)
     boxes = boxes_by_width(lines, stroke_rule(rule), plates.resolution)
@@ -216,6 +217,17 @@ def layer_lines(trace: Trace, settings: Settings) -> Iterator[str]:
         if name not in trace.painted:
             known = ", ".join(sorted(trace.painted)) or "none"
             yield f"--layer: no layer {name} paints on the page; layers that do: {known}"
+
+
+# Pairs of inks
+
+def pair_zones(plates: Plates, inks: Sequence[Ink], rule: Parameters, settings: Settings) -> Iterator[Pair]:
+    """Where inks meet of which the table of pairs gives the width."""
+    if not settings.pairs:
+        return
+    planes = [array if plates.maxval == BIG else EightBits(array) for array in plates.arrays]
+    for one in pair_places(planes, inks, read_pairs(settings.pairs), stroke_rule(rule), plates.resolution):
+        yield Pair(tuple(points_of(box, plates) for box in one.boxes), one.factor, one.reason)
 
 
 # Thin strokes

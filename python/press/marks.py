@@ -8,7 +8,7 @@ import math
 from collections.abc import Iterator, Sequence
 from dataclasses import dataclass
 
-from .rects import NOTHING, Point, Rect, around, without
+from .rects import Point, Rect, around, without
 
 # A glyph's box in ems: below and above the baseline.
 DESCENT, ASCENT = -0.25, 0.95
@@ -68,12 +68,12 @@ def above(marks: Sequence[Mark], images: Sequence[tuple[int, Rect]], margin: flo
     the places of images with their place in the order of painting."""
     found = []
     for mark in marks:
-        below = [place for order, place in images if order < mark.order and place.common(mark.box) != NOTHING]
+        below = [place for order, place in images if order < mark.order and place.meets(mark.box)]
         if not below:
             continue
-        later = [place for order, place in images if order > mark.order and place.common(mark.box) != NOTHING]
+        later = [place for order, place in images if order > mark.order and place.meets(mark.box)]
         for box in mark.outline:
-            if not any(place.common(box) != NOTHING for place in below):
+            if not any(place.meets(box) for place in below):
                 continue
             left = [box]
             for place in later:

@@ -12,6 +12,7 @@ from .folder import JOB, ZONES, PageFolder, PageSource, write_table
 from .inkedits import InkEdits, edit_plates, pairs_of
 from .inks import Ink, InkBook
 from .layout import Layout, lay_out
+from .pairs import directed, pairs_file, read_pairs
 from .plates import Plates, write_pgm
 from .render import Rendering, render
 from .settings import Settings
@@ -51,6 +52,9 @@ def prepare(source: Source, number: int, settings: Settings, book: InkBook, scra
                             source.place(number))
     has_ink = rendering.plates.has_ink()
     inks = tuple(book.ink(one, inked) for one, inked in zip(rendering.separations, has_ink))
+    pairs = pairs_file(settings, source.path)
+    if pairs:
+        inks = tuple(directed(inks, read_pairs(pairs)))
     trace, untraced = None, None
     if info and (settings.layer or not settings.trap_images):
         try:
@@ -75,6 +79,7 @@ def edits_of(settings: Settings, book: InkBook) -> InkEdits:
 def layout_of(page: Page, settings: Settings) -> Layout:
     """What stands in the page's job before showpage: what the owner sets, and the press room's own zones."""
     own = job.own_statements(settings, page.source.path, page.number)
+    settings = settings.but(pairs=pairs_file(settings, page.source.path))
     return lay_out(own, page.info, page.trace, page.rendering.plates, page.inks, settings)
 
 

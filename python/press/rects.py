@@ -27,6 +27,11 @@ class Rect(NamedTuple):
                     min(self.upper, other.upper))
         return both if both.left < both.right and both.lower < both.upper else NOTHING
 
+    def meets(self, other: "Rect") -> bool:
+        """Whether it has more than a border in common with another."""
+        return (self.left < other.right and other.left < self.right and self.lower < other.upper
+                and other.lower < self.upper)
+
     def drawn_in(self, margin: float) -> "Rect":
         """The rectangle without a strip along its border."""
         small = Rect(self.left + margin, self.lower + margin, self.right - margin, self.upper - margin)

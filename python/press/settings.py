@@ -186,6 +186,7 @@ class Settings:
     inks: str | None = None
     # Zones and parameters.
     zones: str | None = None
+    pairs: str | None = None
     trap_images: bool = False
     over_images: bool = True
     trap_within: str | None = None
@@ -289,6 +290,10 @@ def add_ink_options(parser: argparse.ArgumentParser) -> None:
 def add_zone_options(parser: argparse.ArgumentParser) -> None:
     """The options of where traps may be."""
     add = parser.add_argument
+    add("--pairs", metavar="FILE",
+        help='a table of pairs of inks: in each line two inks and "under", by which the first spreads under the '
+             'second, "never", or a factor of the trap width where they meet, with tabs between them. A file label.pairs '
+             'beside label.pdf is taken by itself, and else pairs.inks of the house')
     add("--no-traps-over-images", dest="over_images", action="store_false", default=None,
         help="traps no type and line work above images either")
     add("--trap-within", metavar="BOX", type=within_of,

@@ -64,6 +64,7 @@ class Trace:
     trm: list[float] = field(default_factory=list)
     paint: tuple[str, tuple[float, ...]] = ("", ())
     paints: dict[tuple[str, tuple[float, ...], bool], Paint] = field(default_factory=dict)
+    clip: Rect | None = None
     hairline: tuple[float, Rect] | None = None
     coarsest: tuple[float, Rect] | None = None
 
@@ -100,15 +101,18 @@ class Trace:
         elif tag.startswith("clip_"):
             # Polygons of a clip by a path are kept; any other, of text or of a mask, cuts nothing away here.
             self.clips.append([])
+            self.clip = None
             self.path = [] if tag == "clip_path" else None
             self.matrix = matrix_of(values)
         elif tag == "pop_clip":
             del self.clips[-1:]
+            self.clip = None
         elif tag == "begin_mask":
             self.masks += 1
         elif tag == "end_mask":
             self.masks -= 1
             self.clips.append([])
+            self.clip = None
         elif tag == "fill_image" and self.masks == 0:
             self.add_image(values)
 
@@ -118,7 +122,7 @@ class Trace:
             del self.tiles[-1:]
         elif tag == "clip_path" and self.path is not None and self.clips:
             self.clips[-1] = [points for points in self.path if len(points) > 2]
-            self.path = None
+            self.path, self.clip = None, None
         elif tag in ("fill_path", "stroke_path") and self.path is not None:
             if not self.tiles:
                 polygons = [points for points in self.path if points]
@@ -180,11 +184,12 @@ class Trace:
 
     def clip_box(self) -> Rect:
         """The rectangle around what the clips leave."""
-        box = EVERYTHING
-        for clip in self.clips:
-            if clip:
-                box = box.common(around([point for points in clip for point in points]))
-        return box
+        if self.clip is None:
+            self.clip = EVERYTHING
+            for clip in self.clips:
+                if clip:
+                    self.clip = self.clip.common(around([point for points in clip for point in points]))
+        return self.clip
 
     def note_layers(self, box: Rect) -> None:
         """What is painted belongs to the layers that it stands in."""

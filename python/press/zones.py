@@ -2,8 +2,8 @@
 """The zones of a job: the one place that orders, cuts and joins them, and counts the limits of a job.
 
 A later zone takes precedence over an earlier one. The order is: the page, cut to where traps may be; layers; the
-owner's zones; thin strokes, never wider than the zone below them and never where that is not enabled; images, without
-what is drawn above them.
+owner's zones; thin strokes, never wider than the zone below them and never where that is not enabled; pairs of inks;
+images, without what is drawn above them.
 """
 from __future__ import annotations
 
@@ -37,6 +37,15 @@ class Layer:
 
 
 @dataclass(frozen=True)
+class Pair:
+    """Where two inks meet, the factor of the trap width there (0 is no trap), and the reason."""
+
+    places: tuple[Rect, ...]
+    factor: float
+    reason: str
+
+
+@dataclass(frozen=True)
 class Wanted:
     """What the press room's zones are made of, beside what the owner wrote. Rectangles are in points.
 
@@ -50,6 +59,7 @@ class Wanted:
     box: str = "media"
     layers: tuple[Layer, ...] = ()
     thin: Mapping[float, Sequence[Rect]] = field(default_factory=dict)
+    pairs: tuple[Pair, ...] = ()
     images: tuple[Rect, ...] = ()
     above: tuple[Rect, ...] = ()
     only_zones: bool = False
@@ -134,15 +144,17 @@ class Composer:
     def composed(self) -> Composed:
         """The statements in their order."""
         page, layers = self.page_zone(), self.layer_zones()
-        thin = self.thin_zones([*page, *layers, *(owner_piece(zone) for zone in self.owner)])
-        images = self.image_zones(thin)
+        below = [*page, *layers, *(owner_piece(zone) for zone in self.owner)]
+        thin = self.thin_zones(below)
+        pairs = self.pair_zones([*below, *thin])
+        images = self.image_zones([*thin, *pairs])
         if not (self.owner or page or layers):
             # Without a zone of its own the page is what holds at its end.
             return Composed(list(self.own), self.warnings, 0, {})
         writer = Writer(self.before)
         head = writer.statements([*page, *layers], restore=self.before if self.owner else None)
         writer.at = self.after if self.owner else writer.at
-        tail = writer.statements([*thin, *images], restore=None)
+        tail = writer.statements([*thin, *pairs, *images], restore=None)
         statements = [*self.own[:self.first], *head, *self.own[self.first:], *tail]
         return Composed(statements, self.warnings, len(thin), self.untrapped(page, layers, images))
 
@@ -152,7 +164,7 @@ class Composer:
         wanted = self.wanted
         if self.owner and wanted.only_zones:
             return []
-        if not (self.owner or wanted.within or wanted.layers or wanted.thin or wanted.images):
+        if not (self.owner or wanted.within or wanted.layers or wanted.thin or wanted.pairs or wanted.images):
             return []
         width, height = wanted.size
         rect = wanted.within or Rect(0, 0, width + BEYOND, height + BEYOND)
@@ -203,6 +215,24 @@ class Composer:
                                    below[at].limits, "Thin strokes (--no-thin-zones leaves them the page's width):"))
         return found
 
+    def pair_zones(self, below: Sequence[Piece]) -> list[Piece]:
+        """A zone for each pair of inks and each zone below that is enabled, with the factor of that zone's width."""
+        found = []
+        for pair in self.wanted.pairs:
+            places: dict[int, list[Rect]] = {}
+            for rect in fewer(pair.places, RECTS_OF_ZONE):
+                for at, piece in self.split(self.cut(rect), below):
+                    if below[at].parameters.enabled:
+                        places.setdefault(at, []).append(piece)
+            for at, rects in sorted(places.items()):
+                width = min(100 * SCALE, int(below[at].parameters.trap_width * pair.factor))
+                parameters = replace(below[at].parameters, trap_width=width) if width else \
+                    replace(below[at].parameters, enabled=False)
+                for part in chunks(rects):
+                    found.append(Piece(tuple(ring for rect in part for ring in shape_of(rect)), parameters,
+                                       below[at].limits, pair.reason))
+        return found
+
     def split(self, rect: Rect, below: Sequence[Piece]) -> Iterator[tuple[int, Rect]]:
         """A rectangle in pieces, each with the number of the topmost zone that it lies in."""
         left = [rect] if rect != NOTHING else []
@@ -238,9 +268,9 @@ class Composer:
         if not places:
             return []
         room = self.room() - sum(len(piece.shape) for piece in thin)
-        holes = disjoint(fewer([hole for hole in self.wanted.above if any(hole.common(place) != NOTHING
-                                                                          for place in places)], room // 2))
-        pairs = [(place, [hole.common(place) for hole in holes if hole.common(place) != NOTHING]) for place in places]
+        over = [hole for hole in self.wanted.above if any(hole.meets(place) for place in places)]
+        holes = disjoint(fewer(over, room // 2))
+        pairs = [(place, [hole.common(place) for hole in holes if hole.meets(place)]) for place in places]
         pairs.sort(key=lambda one: -one[0].area)
         return list(self.image_pieces(pairs, room))
 
