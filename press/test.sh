@@ -118,7 +118,7 @@ try_words() {
   refused 2 "press-slurm-here: start or stop, .*" "$here/slurm-here" restart hot
   # Completion of words, in a shell of its own.
   bash -c '. "$1"; complete_words() { COMP_WORDS=("$@"); COMP_CWORD=$(($# - 1)); _press press "${@: -1}" "${@: -2:1}"; }
-    complete_words press check --js && [ "${COMPREPLY[*]}" = --json ] && complete_words press slurm-here st && [ "${COMPREPLY[*]}" = "start stop" ] &&
+    complete_words press preflight --js && [ "${COMPREPLY[*]}" = --json ] && complete_words press slurm-here st && [ "${COMPREPLY[*]}" = "start stop" ] &&
     complete_words press plates --kind Gold = Opa && [ "${COMPREPLY[*]}" = "Opaque OpaqueIgnore" ]' - "$here/completion/press" || wrong "completion"
   refused 2 "farm.sbatch: it is run by sbatch, .*" "$here/farm.sbatch" two.pdf new
 }
@@ -472,7 +472,7 @@ try_traps() {
   local status=0
   "$here/all" --quiet pages.pdf pages >../told 2>../line || status=$?
   [ "$status" = 1 ] && [ "$(grep -c ': done: ' ../told)" = 2 ] || wrong "all: $status, $(cat ../told)"
-  grep -q '^page 2: failed: press-check: pages.pdf: page 2: pages.2.zones: line 1: .*UnknownOperator' ../told || wrong "all: $(cat ../told)"
+  grep -q '^page 2: failed: press-preflight: pages.pdf: page 2: pages.2.zones: line 1: .*UnknownOperator' ../told || wrong "all: $(cat ../told)"
   [ -s pages/page-002.failed/why ] && [ ! -e pages/page-002 ] && [ -d pages/page-003/tiff ] || wrong "all: the folders"
   rm pages.2.zones
   goes "$here/all" --quiet --page 2 pages.pdf pages
@@ -532,36 +532,36 @@ try_pictures() {
   refused 2 "press-look: --traps, .* do not go together .*" "$here/look" two new.png --misregister 1,1 --traps
 }
 
-# told KIND TEXT: what press/check told last has a finding of this kind and level.
+# told KIND TEXT: what press/preflight told last has a finding of this kind and level.
 told() { grep -qE "$1" ../told || wrong "check: no line '$1' in: $(cat ../told)"; }
 
 # What is looked at before anything is drawn.
 try_check() {
   local one
-  goes "$here/check" --dpi 200 pair.pdf
+  goes "$here/preflight" --dpi 200 pair.pdf
   told 'pair.pdf: warning: trap-width: TrapWidth 0.25 pt is 0.69 samples at 200 .*not trapped'
-  goes "$here/check" --dpi 100 pair.pdf
+  goes "$here/preflight" --dpi 100 pair.pdf
   told 'trap-width: .*: nothing is trapped'
-  goes "$here/check" --dpi 290 pair.pdf
+  goes "$here/preflight" --dpi 290 pair.pdf
   ! grep -q trap-width ../told || wrong "check: a width of a whole sample is called out: $(cat ../told)"
   # Refused by box and resolution, before it is drawn: a Ghostscript that draws nothing is not waited for.
   mkdir -p ../slow && : >../slow/now
   refused 7 "press-plates: huge.pdf: page 1: 120000 by 120000 samples, and a side has at most 16384 \(at most 63 .*" \
     env PATH="$(slow_gs)" "$here/plates" --time 20 huge.pdf new
-  refused_but_told 1 'page 1: failed: press-check: huge.pdf: page 1: 120000 by .* \(at most 63 .*' \
+  refused_but_told 1 'page 1: failed: press-preflight: huge.pdf: page 1: 120000 by .* \(at most 63 .*' \
     env PATH="$(slow_gs)" "$here/all" --time 20 --quiet huge.pdf huge
   rm -r huge
   # A page whose inks are known is told its size once.
-  "$here/check" --dpi 3000 pair.pdf >../told 2>../line || true
+  "$here/preflight" --dpi 3000 pair.pdf >../told 2>../line || true
   [ "$(grep -c ': fault: size: ' ../told)" -le 1 ] || wrong "check: a size is told twice: $(cat ../told)"
   refused 5 "press-plates: twenty.pdf: page 1: Ghostscript is at it for more than 1 s .*" env PATH="$(slow_gs)" "$here/plates" --time 1 twenty.pdf new
   rm ../slow/now
   # Zones: a fault at the file's own line, once; keys that nobody knows; a byte order mark.
   printf '<< /TrapWidht 0.3 /HalftoneName null >> settrapparams\n' >keys.zones
-  goes "$here/check" pair.pdf --zones keys.zones
+  goes "$here/preflight" pair.pdf --zones keys.zones
   told 'pair.pdf: warning: unknown-key: keys.zones: line 1: unknown key /TrapWidht .*is /TrapWidth meant'
   told 'unknown-key: keys.zones: line 1: /HalftoneName is an entry of PostScript'
-  refused_but_told 10 'pair.pdf: warning: unknown-key.*' "$here/check" --strict pair.pdf --zones keys.zones
+  refused_but_told 10 'pair.pdf: warning: unknown-key.*' "$here/preflight" --strict pair.pdf --zones keys.zones
   printf '\n<< /TrapWidth 0.3mm >> settrapparams\n' >fault.zones
   if [ "$built" = yes ]; then
     for one in all farm; do
@@ -569,41 +569,41 @@ try_check() {
     done
   fi
   printf '\357\273\277<< /TrapWidth 0.3 >> settrapparams\n' >mark.zones
-  goes "$here/check" pair.pdf --zones mark.zones
+  goes "$here/preflight" pair.pdf --zones mark.zones
   told 'warning: byte-order-mark: mark.zones: line 1'
   [ "$built" = no ] || goes "$here/all" --quiet --no-proof pair.pdf mark --zones mark.zones
   printf '\357\273\277Warm Red\t0.9\nwarm red\t0.8\nGold Foil\t-\tOpaqueIgnore\n' >strange.inks
-  goes "$here/check" two.pdf --inks strange.inks
+  goes "$here/preflight" two.pdf --inks strange.inks
   told 'warning: byte-order-mark: strange.inks'
   told 'warning: inks-line: strange.inks: line 2: no colorant is called warm red \(is Warm Red meant\?\)'
   ! grep -q 'ink-density\|line 1: no' ../told || wrong "check: a table with a byte order mark is not read: $(cat ../told)"
   # Fonts, boxes, repairs; and as JSON.
   sed 's/Helvetica-Bold/FancyFont-Bold/' "$top/examples/label/label.pdf" >font.pdf
-  goes "$here/check" font.pdf
+  goes "$here/preflight" font.pdf
   told 'font.pdf: pages 1-2: warning: font: the PDF lacks the font FancyFont-Bold; [^ ]* stands in its place'
   [ "$(grep -c FancyFont ../told)" = 1 ] || wrong "check: a font is told twice: $(cat ../told)"
   # Without Debian's fonts-droid-fallback, which Ghostscript only recommends, it tells the font by the page's name for it.
-  goes "$here/check" japan.pdf
+  goes "$here/preflight" japan.pdf
   told 'japan.pdf: page 1: warning: font: the PDF lacks the font (HeiseiKakuGo-W5|F); .* stands in its place'
-  goes "$here/check" --box trim pair.pdf
+  goes "$here/preflight" --box trim pair.pdf
   told 'pair.pdf: page 1: warning: box: the page has no TrimBox'
-  goes "$here/check" cropped.pdf
+  goes "$here/preflight" cropped.pdf
   told 'cropped.pdf: page 1: warning: box: what lies outside the CropBox is not drawn, and the BleedBox does: --box bleed draws that'
-  refused_but_told 5 'sizeless.pdf: page 1: warning: box: the page tells no size that can be read.*' "$here/check" sizeless.pdf
-  goes "$here/check" --box bleed cropped.pdf
+  refused_but_told 5 'sizeless.pdf: page 1: warning: box: the page tells no size that can be read.*' "$here/preflight" sizeless.pdf
+  goes "$here/preflight" --box bleed cropped.pdf
   ! grep -q ': box: ' ../told || wrong "check: a box that is drawn is called out: $(cat ../told)"
   # Names that are another's but for a little.
-  goes "$here/check" spellings.pdf --density cyan=0.6
+  goes "$here/preflight" spellings.pdf --density cyan=0.6
   told 'warning: process-name: cyan is a spot with a plate of its own, and is called like a process ink: is Cyan meant'
   told 'warning: ink-twice: (WARM RED and Warm Red|Warm Red and WARM RED) are two plates'
   ! grep -q 'inks-line\|of cyan is not told' ../told || wrong "check: an ink of another spelling is not known: $(cat ../told)"
-  goes "$here/check" --json damaged.pdf
+  goes "$here/preflight" --json damaged.pdf
   python3 -c 'import json, sys
 told = json.load(open("../told"))
 assert [one["kind"] for one in told["findings"]] == ["repaired"] and told["takes"][0]["width"] == 1000, told'
-  refused_but_told 10 'damaged.pdf: page 1: warning: repaired: .*' "$here/check" --strict damaged.pdf
+  refused_but_told 10 'damaged.pdf: page 1: warning: repaired: .*' "$here/preflight" --strict damaged.pdf
   [ "$built" = yes ] || return 0
-  refused_but_told 1 'page 1: failed: press-check: damaged.pdf: .*\(--strict\)' "$here/all" --quiet --strict damaged.pdf damaged
+  refused_but_told 1 'page 1: failed: press-preflight: damaged.pdf: .*\(--strict\)' "$here/all" --quiet --strict damaged.pdf damaged
   rm -r damaged mark
   goes "$here/all" --quiet --no-proof damaged.pdf damaged
   rm -r damaged
@@ -634,7 +634,7 @@ GS
 # The library of inks, technical inks, a house's table, parameters by words, presets.
 try_inks() {
   python3 "$here/tests/ink_library.py" || wrong "inks: the library's figures"
-  goes "$here/check" technical.pdf
+  goes "$here/preflight" technical.pdf
   told 'warning: ink-kind: CutContour is a technical ink by its name, and is taken as Transparent'
   told 'warning: knock-out: CutContour .* knocks out'
   told 'warning: ink-kind: UV-Lack .* Transparent'
@@ -681,7 +681,7 @@ try_images() {
   if ! there mutool; then skip images mutool; return; fi
   local path
   path=$(without mutool)
-  goes env PATH="$path" "$here/check" photo.pdf
+  goes env PATH="$path" "$here/preflight" photo.pdf
   told 'warning: images: mutool is not there .*: images are not looked for'
   [ "$built" = yes ] || return 0
   for one in photo turned clipped pattern; do
@@ -724,11 +724,11 @@ try_sources() {
   begins "sources: the box at the EPS's end" later/Cyan.pgm 'P5\n500 333\n255\n'
   # One that tells none is warned of; one with a picture of itself in front tells it within.
   sed '/BoundingBox/d' drawn.eps >boxless.eps
-  goes "$here/check" boxless.eps
+  goes "$here/preflight" boxless.eps
   told 'boxless.eps: warning: box: the EPS tells no box'
   { printf '\305\320\323\306\036\0\0\0'; head -c 22 /dev/zero; cat drawn.eps; } >preview.eps
   for one in drawn later preview; do
-    goes "$here/check" "$one.eps"
+    goes "$here/preflight" "$one.eps"
     ! grep -q 'tells no box' ../told || wrong "sources: $one.eps: $(cat ../told)"
   done
   rm boxless.eps preview.eps
@@ -851,7 +851,7 @@ try_living() {
   if mkdir -p small && mount -t tmpfs -o size=1m none small 2>/dev/null; then
     # shellcheck disable=SC2064
     trap "umount -l '$PWD/small'" EXIT
-    refused_but_told 1 'page 1: failed: press-check: two.pdf: page 1: the page takes about .* of disk, and there are .*' \
+    refused_but_told 1 'page 1: failed: press-preflight: two.pdf: page 1: the page takes about .* of disk, and there are .*' \
       "$here/all" --quiet --no-proof two.pdf small/out
     status=0
     "$here/plates" two.pdf small/page --dpi 1200 >../told 2>../line || status=$?
@@ -866,7 +866,7 @@ try_living() {
   # Names: what would colour a terminal or break a line is spelled out.
   one=$(printf 'bad\033[31m\nred.pdf')
   cp pair.pdf "$one"
-  goes "$here/check" "$one"
+  goes "$here/preflight" "$one"
   ! grep -q "$(printf '\033')" ../told && [ "$(wc -l <../told)" = 1 ] && grep -qF 'bad\x1b[31m\x0ared.pdf: page 1: ' ../told || wrong "living: names"
   one=$(printf 'Gr\374n.pdf')
   cp pair.pdf "$one"

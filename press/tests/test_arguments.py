@@ -7,10 +7,10 @@ from room import COMMANDS, TOP, Room
 
 pytestmark = [pytest.mark.quick, pytest.mark.plain]
 
-COMMAND_NAMES = ("plates", "trap", "tiff", "look", "all", "farm", "watch", "check", "proof", "slurm-here", "press")
+COMMAND_NAMES = ("plates", "trap", "tiff", "look", "all", "farm", "watch", "preflight", "proof", "slurm-here", "press")
 # A command line of each command that lacks nothing.
 COMPLETE = {"plates": ["two.pdf", "new"], "trap": ["two"], "tiff": ["two", "new"], "look": ["two", "new.png"], "all": ["two.pdf", "new"],
-            "farm": ["two.pdf", "new"], "watch": ["hot"], "check": ["two.pdf"], "proof": ["two"]}
+            "farm": ["two.pdf", "new"], "watch": ["hot"], "preflight": ["two.pdf"], "proof": ["two"]}
 SEE = r" \(see press-{} --help\)"
 # Usage errors: the words, and how the line begins after the command's name.
 WRONG_VALUES = [
@@ -88,7 +88,7 @@ def test_press_has_no_other_commands(folder: Room) -> None:
 
 
 @pytest.mark.parametrize("words, expected", [
-    (["check", "--js"], "--json"), (["slurm-here", "st"], "start stop"), (["plates", "--kind", "Gold", "=", "Opa"], "Opaque OpaqueIgnore")])
+    (["preflight", "--js"], "--json"), (["slurm-here", "st"], "start stop"), (["plates", "--kind", "Gold", "=", "Opa"], "Opaque OpaqueIgnore")])
 def test_completion(words: list[str], expected: str) -> None:
     """The shell completes options, arguments and kinds of ink."""
     script = '. "$1"; shift; COMP_WORDS=(press "$@"); COMP_CWORD=$#; _press press "${@: -1}" "${@: -2:1}"; echo "${COMPREPLY[*]}"'

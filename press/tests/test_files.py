@@ -41,7 +41,7 @@ def test_names_that_would_move_the_cursor(room: Room) -> None:
     room.sample("pair.pdf")
     name = "bad\x1b[31m\nred.pdf"
     (room / "pair.pdf").rename(room / name)
-    told = room.goes("check", name).out
+    told = room.goes("preflight", name).out
     assert "\x1b" not in told and told.count("\n") == 1, told
     assert r"bad\x1b[31m\x0ared.pdf: page 1: " in told
 
@@ -75,7 +75,7 @@ def fixture_small_disk(room: Room) -> Iterator[Path]:
 def test_full_disk(room: Room, small_disk: Path, built: None) -> None:
     """A disk without room for the plates refuses the page before it is drawn; one that fills up is named as the reason."""
     room.sample("two.pdf")
-    room.refused_after(1, r"page 1: failed: press-check: two\.pdf: page 1: the page takes about .* of disk, and there are .*",
+    room.refused_after(1, r"page 1: failed: press-preflight: two\.pdf: page 1: the page takes about .* of disk, and there are .*",
                        "all", "--quiet", "--no-proof", "two.pdf", small_disk / "out")
     done = room.run("plates", "two.pdf", small_disk / "page", "--dpi", "1200")
     assert done.status == 8 and "No space left on device" in done.err, done

@@ -41,7 +41,7 @@ def test_files_beside_the_pdf(room: Room) -> None:
 def test_findings_of_technical_inks(room: Room) -> None:
     """Technical inks are known by their names, a knock-out is warned of, and swatches come from the library."""
     room.sample("technical.pdf")
-    told = room.goes("check", "technical.pdf").out
+    told = room.goes("preflight", "technical.pdf").out
     for line in ("warning: ink-kind: CutContour is a technical ink by its name, and is taken as Transparent",
                  "warning: knock-out: CutContour .* knocks out", "warning: ink-kind: UV-Lack .* Transparent",
                  r"note: ink-library: the density of PANTONE Reflex Blue C is 1\.64 by press/inks/spots\.inks, line [0-9]+: look"):
@@ -72,7 +72,7 @@ def test_table_of_the_house(room: Room) -> None:
 def test_names_that_are_nearly_the_same(room: Room) -> None:
     """A spot called like a process ink, and two spellings of one ink, are warned of; --density of such a name counts."""
     room.sample("spellings.pdf")
-    told = room.goes("check", "spellings.pdf", "--density", "cyan=0.6").out
+    told = room.goes("preflight", "spellings.pdf", "--density", "cyan=0.6").out
     assert "warning: process-name: cyan is a spot with a plate of its own, and is called like a process ink: is Cyan meant" in told
     assert re.search("warning: ink-twice: (WARM RED and Warm Red|Warm Red and WARM RED) are two plates", told), told
     assert "inks-line" not in told and "of cyan is not told" not in told, told

@@ -8,8 +8,8 @@ from room import LABEL, Room
 
 
 def check(room: Room, *arguments: str) -> str:
-    """What press/check prints."""
-    return room.goes("check", *arguments).out
+    """What press/preflight prints."""
+    return room.goes("preflight", *arguments).out
 
 
 def has(told: str, line: str) -> None:
@@ -32,7 +32,7 @@ def test_pages_that_are_too_large_are_not_rendered(room: Room, built: None) -> N
     (room.beside / "slow-now").touch()
     room.refused(7, r"press-plates: huge\.pdf: page 1: 120000 by 120000 samples, and a side has at most 16384 \(at most 63 .*",
                  "plates", "--time", "60", "huge.pdf", "new", env=path)
-    room.refused_after(1, r"page 1: failed: press-check: huge\.pdf: page 1: 120000 by .* \(at most 63 .*",
+    room.refused_after(1, r"page 1: failed: press-preflight: huge\.pdf: page 1: 120000 by .* \(at most 63 .*",
                        "all", "--time", "60", "--quiet", "huge.pdf", "huge", env=path)
 
 
@@ -49,7 +49,7 @@ def test_time_limit(room: Room) -> None:
 def test_size_is_found_once(room: Room, dpi: str, faults: int) -> None:
     """A page that is too large, by its sides or with the inks that are found, has one finding of its size."""
     room.sample("pair.pdf")
-    done = room.run("check", "--dpi", dpi, "pair.pdf")
+    done = room.run("preflight", "--dpi", dpi, "pair.pdf")
     assert done.out.count(": fault: size: ") == faults and done.status == 7 * faults, done
 
 
@@ -60,7 +60,7 @@ def test_unknown_keys_of_zones(room: Room) -> None:
     told = check(room, "pair.pdf", "--zones", "keys.zones")
     has(told, r"pair\.pdf: warning: unknown-key: keys\.zones: line 1: unknown key /TrapWidht .*is /TrapWidth meant")
     has(told, r"unknown-key: keys\.zones: line 1: /HalftoneName is an entry of PostScript")
-    room.refused_after(10, r"pair\.pdf: warning: unknown-key.*", "check", "--strict", "pair.pdf", "--zones", "keys.zones")
+    room.refused_after(10, r"pair\.pdf: warning: unknown-key.*", "preflight", "--strict", "pair.pdf", "--zones", "keys.zones")
 
 
 @pytest.mark.parametrize("command", ["all", "farm"])
@@ -101,7 +101,7 @@ def test_boxes(room: Room) -> None:
     has(check(room, "--box", "trim", "pair.pdf"), r"pair\.pdf: page 1: warning: box: the page has no TrimBox")
     has(check(room, "cropped.pdf"),
         r"cropped\.pdf: page 1: warning: box: what lies outside the CropBox is not drawn, and the BleedBox does: --box bleed draws that")
-    room.refused_after(5, r"sizeless\.pdf: page 1: warning: box: the page tells no size that can be read.*", "check", "sizeless.pdf")
+    room.refused_after(5, r"sizeless\.pdf: page 1: warning: box: the page tells no size that can be read.*", "preflight", "sizeless.pdf")
     assert ": box: " not in check(room, "--box", "bleed", "cropped.pdf")
 
 
@@ -116,6 +116,6 @@ def test_json(room: Room) -> None:
 def test_repaired_files(room: Room, built: None) -> None:
     """A file that Ghostscript repairs is refused by --strict alone."""
     room.sample("damaged.pdf")
-    room.refused_after(10, r"damaged\.pdf: page 1: warning: repaired: .*", "check", "--strict", "damaged.pdf")
-    room.refused_after(1, r"page 1: failed: press-check: damaged\.pdf: .*\(--strict\)", "all", "--quiet", "--strict", "damaged.pdf", "strict")
+    room.refused_after(10, r"damaged\.pdf: page 1: warning: repaired: .*", "preflight", "--strict", "damaged.pdf")
+    room.refused_after(1, r"page 1: failed: press-preflight: damaged\.pdf: .*\(--strict\)", "all", "--quiet", "--strict", "damaged.pdf", "strict")
     room.goes("all", "--quiet", "--no-proof", "damaged.pdf", "damaged")

@@ -16,7 +16,7 @@ def test_pages_that_fail_do_not_stop_the_others(room: Room) -> None:
     zones = room.write("three.2.zones", "gsave\n")
     done = room.run("all", "--quiet", "three.pdf", "pages")
     assert done.status == 1 and done.out.count(": done: ") == 2, done
-    failed = [line for line in done.out.splitlines() if line.startswith("page 2: failed: press-check: three.pdf: page 2: three.2.zones: line 1: ")]
+    failed = [line for line in done.out.splitlines() if line.startswith("page 2: failed: press-preflight: three.pdf: page 2: three.2.zones: line 1: ")]
     assert len(failed) == 1 and failed[0].endswith('UnknownOperator"'), done
     assert (room / "pages/page-002.failed/why").read_text().strip() in failed[0]
     assert not (room / "pages/page-002").exists() and (room / "pages/page-003/tiff").is_dir()

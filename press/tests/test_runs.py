@@ -70,7 +70,7 @@ def test_page_that_fails_is_in_the_result(room: Room, monkeypatch: pytest.Monkey
     result = run("three.pdf", "out", Settings(dpi=72, proof=False))
     failed = result.pages[2]
     assert result.failed == (2,) and isinstance(failed, PageFailed) and failed.status == 9
-    assert failed.why.startswith("press-check: three.pdf: page 2: three.2.zones: line 1: the program refuses it: ")
+    assert failed.why.startswith("press-preflight: three.pdf: page 2: three.2.zones: line 1: the program refuses it: ")
 
 
 def test_signals_wait_while_a_process_is_forked() -> None:

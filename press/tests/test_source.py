@@ -105,9 +105,9 @@ def test_eps_without_a_box(room: Room) -> None:
     room.write("boxless.eps", b"".join(line for line in text.splitlines(keepends=True) if b"BoundingBox" not in line))
     room.write("later.eps", box_at_end(text))
     room.write("preview.eps", PREVIEW_HEAD + text)
-    assert "boxless.eps: warning: box: the EPS tells no box" in room.goes("check", "boxless.eps").out
+    assert "boxless.eps: warning: box: the EPS tells no box" in room.goes("preflight", "boxless.eps").out
     for name in ("drawn", "later", "preview"):
-        assert "tells no box" not in room.goes("check", f"{name}.eps").out
+        assert "tells no box" not in room.goes("preflight", f"{name}.eps").out
 
 
 def test_old_illustrator_file(room: Room, built: None) -> None:

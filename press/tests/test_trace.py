@@ -16,7 +16,7 @@ OWN_ZONE = "<< /TrapWidth 0.5 >> settrapparams 0 0 moveto 60 0 rlineto 0 48 rlin
 def test_without_mutool(room: Room) -> None:
     """Without mutool images are not looked for, which is warned of."""
     room.sample("photo.pdf")
-    told = room.goes("check", "photo.pdf", env=room.without("mutool")).out
+    told = room.goes("preflight", "photo.pdf", env=room.without("mutool")).out
     assert re.search(r"warning: images: mutool is not there .*: images are not looked for", told), told
 
 

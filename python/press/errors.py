@@ -5,16 +5,16 @@ import enum
 # Made of the statuses of docs/PRESS.md by tools/pages.
 STATUSES = """Status:
   0  done
-  1  some page failed; the others stand (press/all, press/farm)
-  2  the words are no command: an unknown option, a word too few or too many
-  3  a tool or a program is not there
+  1  some page failed; the others are complete (press/all, press/farm)
+  2  usage error: an unknown option, a missing argument or one too many
+  3  a tool or a program is not installed
   4  a file cannot be read
   5  Ghostscript cannot read the PDF, or the PDF has no such page
   6  the folder has no plates
-  7  the plates make no page: two sizes, too many colorants or samples
-  8  an output cannot be written, stands in the way, or another run is at work there
-  9  a program of traps refuses the page or its job; its line is printed
-  10 the preflight warns of something, and --strict is given
+  7  the plates do not form a page: two sizes, too many colorants or samples
+  8  an output cannot be written or replaced, or another run works there
+  9  a trapping program refuses the page or its job; its line is printed
+  10 preflight has a warning, and --strict is given
 """
 # End of what is made.
 

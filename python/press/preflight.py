@@ -67,7 +67,7 @@ class PageReport:
 
 @dataclass(frozen=True)
 class FileReport:
-    """What was found in a file, as press/check prints it."""
+    """What was found in a file, as press/preflight prints it."""
 
     source: Source
     dpi: int

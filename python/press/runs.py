@@ -135,7 +135,7 @@ class PageWork:
     def make(self, folder: str) -> engine.Report:
         """Goes the whole way into a folder: plates, traps, TIFF files, pictures and proof."""
         scratch = os.path.join(os.path.dirname(folder), "scratch")
-        with self.step("a look", "press-check"):
+        with self.step("a look", "press-preflight"):
             os.mkdir(scratch)
             page = self.look(scratch)
         with self.step("plates", "press-plates"):
