@@ -20,6 +20,7 @@ from press.plates import read_pgm, write_pgm
 from press.trapped_page import read_trapped_page
 
 OUTPUT = "trapped.pdf"
+FONT = "page 1: the file does not embed Helvetica: where another face stands in its place, the traps do not fit"
 
 
 def trapped(source: Path, folders: list[Path], **settings: Any) -> PdfResult:
@@ -212,7 +213,7 @@ def test_signed_files(plain: tuple[Path, list[Path]]) -> None:
         field = pdf.make_indirect(Dictionary(FT=Name.Sig, T=String("Approval"), V=Dictionary(Type=Name.Sig)))
         pdf.Root.AcroForm = Dictionary(Fields=Array([field]), SigFlags=3)
         pdf.save()
-    assert trapped(path, folders).warnings == ["its digital signature breaks"]
+    assert trapped(path, folders).warnings == ["its digital signature breaks", FONT]
     assert refusal(path, folders, strict=True).status is Status.WARNED
 
 
@@ -345,13 +346,14 @@ def test_annotations_links_and_bookmarks(tmp_path: Path) -> None:
     """What is printed becomes part of the page; what is not, and links and bookmarks, stay."""
     path = saved(with_annotations(), tmp_path / "in.pdf")
     folders = folders_of(path)
-    assert trapped(path, folders).warnings == ["annotations that are printed become part of the page"]
+    assert trapped(path, folders).warnings == [FONT, "annotations that are printed become part of the page"]
     with pikepdf.open(tmp_path / OUTPUT) as pdf:
         assert [str(one.Subtype) for one in pdf.pages[0].obj.Annots] == ["/Text", "/Link"]
         with pdf.open_outline() as outline:
             assert [item.title for item in outline.root] == ["The first page"]
     assert refusal(path, folders, strict=True).status is Status.WARNED
-    assert trapped(path, folders, form=NETWORK, strict=True).verified
+    result = trapped(path, folders, form=NETWORK)
+    assert result.verified and result.warnings == [FONT]
     with pikepdf.open(tmp_path / OUTPUT) as pdf:
         assert [str(one.Subtype) for one in pdf.pages[0].obj.Annots] == ["/Stamp", "/Text", "/Link", "/TrapNet"]
 
@@ -382,7 +384,7 @@ def test_the_command_and_its_report(tmp_path: Path) -> None:
     for at, folder in enumerate(folders_of(path), 1):
         folder.rename(tmp_path / "run" / f"page-{at:03d}")
     done = run_command("pdf", path, tmp_path / "out.pdf", tmp_path / "run")
-    assert done.returncode == 0 and done.stderr == "", done
+    assert done.returncode == 0 and done.stderr.count("\n") == 2 and FONT in done.stderr, done
     lines = done.stdout.splitlines()
     assert lines[0].startswith("page 1: ") and lines[1].startswith("page 2: ") and lines[2].startswith("verified: ")
     told = json.loads((tmp_path / "out.json").read_text())

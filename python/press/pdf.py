@@ -6,13 +6,15 @@ from dataclasses import dataclass, field
 
 import pikepdf
 
+from .content import fonts_outside
 from .errors import PressError, Status
 from .output_report import full_disk_refused
-from .pdf_grid import box_of_plates, grid_matrix
+from .pdf_grid import box_of_plates, grid_matrix, inherited
 from .pdf_layer import Paint, add_trap_network, layer_of, put_on_page, traps_form
 from .pdf_state import flatten, is_signed, mark_trapped, open_pdf, printed_annotations, remove_traps, signs_of_trapping
 from .pdf_tiles import TrapCount, tile_images
 from .pdf_verify import Expected, Grid, verify
+from .source import UNREAD
 from .trapped_page import TrappedPage
 
 MOST_MARGIN = 16
@@ -75,6 +77,18 @@ def need_distinct(pages: Sequence[TrappedPage], count: int, path: str) -> None:
         seen[number] = page.folder.path
 
 
+def fonts_line(page: pikepdf.Page, number: int) -> str | None:
+    """What there is to be said of fonts that the file does not embed."""
+    try:
+        names = sorted(set(fonts_outside(inherited(page, "/Resources"), set(), 0)))
+    except (*UNREAD, AttributeError, TypeError, ValueError, KeyError, IndexError):
+        return None
+    if not names:
+        return None
+    return (f"page {number}: the file does not embed {', '.join(names)}: where another face stands in its place, the "
+            f"traps do not fit")
+
+
 def judge(pdf: pikepdf.Pdf, pages: Sequence[TrappedPage], settings: PdfSettings, result: PdfResult, path: str) -> None:
     """Refuses or warns of what traps do not go with, and makes the pages ready for them."""
     signs = list(signs_of_trapping(pdf))
@@ -90,6 +104,10 @@ def judge(pdf: pikepdf.Pdf, pages: Sequence[TrappedPage], settings: PdfSettings,
     if is_signed(pdf):
         warn(result, settings, "its digital signature breaks", path)
     chosen = [pdf.pages[page.number - 1] for page in pages]
+    for page in pages:
+        line = fonts_line(pdf.pages[page.number - 1], page.number)
+        if line:
+            warn(result, settings, line, path)
     if settings.form != NETWORK and any(printed_annotations(page) for page in chosen):
         warn(result, settings, "annotations that are printed become part of the page", path)
         flatten(pdf, chosen)
