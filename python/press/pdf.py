@@ -1,8 +1,10 @@
 # SPDX-License-Identifier: Apache-2.0
 """A trapped PDF: the pages of a PDF as they are, with the traps that were made of their plates on top, as one layer."""
+import io
 import os
 from collections.abc import Sequence
 from dataclasses import dataclass, field
+from typing import Any, BinaryIO
 
 import pikepdf
 
@@ -131,12 +133,42 @@ def trap_page(pdf: pikepdf.Pdf, page: TrappedPage, settings: PdfSettings) -> Pag
     return PageResult(page, box, count.changed, count.painted, len(images))
 
 
+class Output(io.RawIOBase):
+    """A file that keeps the first fault of writing instead of raising it: qpdf would end the whole process."""
+
+    def __init__(self, file: BinaryIO) -> None:
+        super().__init__()
+        self.file = file
+        self.fault: OSError | None = None
+
+    def writable(self) -> bool:
+        """Yes."""
+        return True
+
+    def write(self, data: Any) -> int:
+        """Writes, unless something failed before."""
+        try:
+            if self.fault is None:
+                self.file.write(data)
+        except OSError as fault:
+            self.fault = fault
+        return len(data)
+
+    def finish(self) -> None:
+        """Raises the fault, or what comes of the last bytes."""
+        if self.fault is not None:
+            raise self.fault
+        self.file.flush()
+
+
 def save(pdf: pikepdf.Pdf, path: str, form: str) -> None:
     """Writes the file. What it had before is not compressed anew."""
-    with full_disk_refused(os.path.dirname(path) or ".", "the trapped PDF was written"):
-        pdf.save(path, min_version="1.5" if form == LAYER else "1.3", compress_streams=False, preserve_pdfa=False,
+    with full_disk_refused(os.path.dirname(path) or ".", "the trapped PDF was written"), open(path, "wb") as file:
+        output = Output(file)
+        pdf.save(output, min_version="1.5" if form == LAYER else "1.3", compress_streams=False, preserve_pdfa=False,
                  object_stream_mode=pikepdf.ObjectStreamMode.preserve,
                  stream_decode_level=pikepdf.StreamDecodeLevel.none)
+        output.finish()
 
 
 def expected_of(done: PageResult, icc: str | None) -> Expected:
