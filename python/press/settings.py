@@ -292,8 +292,8 @@ def add_zone_options(parser: argparse.ArgumentParser) -> None:
     add = parser.add_argument
     add("--pairs", metavar="FILE",
         help='a table of pairs of inks: in each line two inks and "under", by which the first spreads under the '
-             'second, "never", or a factor of the trap width where they meet, with tabs between them. A file label.pairs '
-             'beside label.pdf is taken by itself, and else pairs.inks of the house')
+             'second, "never", or a factor of the trap width where they meet, with tabs between them. A file '
+             'label.pairs beside label.pdf is taken by itself, and else pairs.inks of the house')
     add("--no-traps-over-images", dest="over_images", action="store_false", default=None,
         help="traps no type and line work above images either")
     add("--trap-within", metavar="BOX", type=within_of,
