@@ -81,9 +81,11 @@ def make_room(folder: Path, samples: Path, programs: Path, environment: dict[str
 
 
 @pytest.fixture(name="room")
-def fixture_room(tmp_path: Path, samples: Path, programs: Path, environment: dict[str, str]) -> Iterator[Room]:
+def fixture_room(request: pytest.FixtureRequest, tmp_path: Path, samples: Path, programs: Path,
+                 environment: dict[str, str]) -> Iterator[Room]:
     """The room of a test. At its end no temporary file may be left."""
     room = make_room(tmp_path, samples, programs, environment)
+    room.is_quick = bool(request.node.get_closest_marker("quick")) and COMMANDS == TOP / "press"
     try:
         yield room
     finally:

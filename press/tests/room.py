@@ -1,10 +1,16 @@
 # SPDX-License-Identifier: Apache-2.0
 """What the tests of the press commands share: a folder of its own for each test, and the ways in which a command is expected to end."""
+import contextlib
+import io
+import logging
 import os
 import re
+import runpy
 import shutil
 import signal
 import subprocess
+import sys
+import tempfile
 import time
 from dataclasses import dataclass, field
 from pathlib import Path
@@ -47,15 +53,43 @@ class Result:
         return f"{' '.join(self.words)} ended with {self.status}\nstdout: {self.out}\nstderr: {self.err}"
 
 
+@contextlib.contextmanager
+def inside(words: list[str], environment: dict[str, str], folder: Path) -> Iterator[tuple[io.BytesIO, io.BytesIO]]:
+    """Makes this process look like one that runs a command, and gives the bytes that it prints."""
+    log, out, err = logging.getLogger("press"), io.BytesIO(), io.BytesIO()
+    saved = dict(os.environ), os.getcwd(), sys.argv, sys.path[:], sys.stdout, sys.stderr, log.handlers[:], tempfile.tempdir
+    signals = {number: signal.getsignal(number) for number in (signal.SIGINT, signal.SIGTERM, signal.SIGHUP)}
+    try:
+        os.environ.clear()
+        os.environ.update(environment)
+        os.chdir(folder)
+        sys.argv, tempfile.tempdir = words, None
+        sys.stdout, sys.stderr = (io.TextIOWrapper(stream, "utf-8", write_through=True) for stream in (out, err))
+        yield out, err
+    finally:
+        for stream in (sys.stdout, sys.stderr):
+            stream.flush()
+            stream.detach()
+        sys.stdout, sys.stderr = saved[4:6]
+        os.environ.clear()
+        os.environ.update(saved[0])
+        os.chdir(saved[1])
+        sys.argv, sys.path[:], log.handlers[:], tempfile.tempdir = saved[2], saved[3], saved[6], saved[7]
+        for number, handler in signals.items():
+            signal.signal(number, handler)
+
+
 @dataclass
 class Room:
-    """The folder of a test. Commands run in `folder`, with temporary files in a folder beside it that has to be empty at the end."""
+    """The folder of a test. Commands run in `folder`, with temporary files in a folder beside it that has to be empty at the end. With
+    `is_quick` the commands that are written in Python run in this process, since Python's start takes longer than most refusals."""
 
     folder: Path
     beside: Path
     samples: Path
     programs: Path
     environment: dict[str, str]
+    is_quick: bool = False
     children: list[subprocess.Popen[str]] = field(default_factory=list)
 
     def __truediv__(self, name: str) -> Path:
@@ -95,6 +129,14 @@ class Room:
         return [os.path.join(place, name) for place, folders, files in os.walk(self.folder) for name in folders + files
                 if TEMPORARY.match(name)]
 
+    def clear_temporary(self) -> None:
+        """Takes away the temporary files of a run that was killed outright: that is left to the system."""
+        for entry in self.temporary.iterdir():
+            if entry.is_dir() and not entry.is_symlink():
+                shutil.rmtree(entry)
+            else:
+                entry.unlink()
+
     # Commands
 
     def words(self, command: str | Path, *arguments: str | Path) -> list[str]:
@@ -111,9 +153,22 @@ class Room:
             cwd: Path | None = None) -> Result:
         """Runs a command to its end."""
         words = self.words(command, *arguments)
+        if self.is_quick and Path(words[0]).read_bytes().startswith(b"#!/usr/bin/env python3"):
+            return self.run_inside(words, self.surroundings(env), cwd or self.folder)
         done = subprocess.run(words, cwd=cwd or self.folder, env=self.surroundings(env), stdin=subprocess.DEVNULL,
                               capture_output=True, timeout=LONGEST, check=False)
         return Result(words, done.returncode, *(text.decode("utf-8", "surrogateescape") for text in (done.stdout, done.stderr)))
+
+    def run_inside(self, words: list[str], environment: dict[str, str], folder: Path) -> Result:
+        """Runs a command that is written in Python in this process."""
+        status: object = 0
+        with inside(words, environment, folder) as (out, err):
+            try:
+                runpy.run_path(words[0], run_name="__main__")
+            except SystemExit as end:
+                status = end.code
+        printed = (stream.getvalue().decode("utf-8", "surrogateescape") for stream in (out, err))
+        return Result(words, int(status) if isinstance(status, int) else 0, *printed)
 
     def goes(self, command: str | Path, *arguments: str | Path, env: Mapping[str, str | None] | None = None,
              cwd: Path | None = None) -> Result:
@@ -209,10 +264,11 @@ class Room:
         """A PATH on which the stand-ins come first."""
         return {"PATH": f"{self.beside / 'stand-ins'}:{self.environment['PATH']}"}
 
-    def slow_ghostscript(self) -> dict[str, str]:
-        """A PATH with a Ghostscript that never ends a page while the file `slow-now` is there; it then makes the file `slow-begun`."""
+    def slow_ghostscript(self, pattern: str = "*tiffsep*") -> dict[str, str]:
+        """A PATH with a Ghostscript that never ends a page, its arguments being like the pattern, while the file `slow-now` is
+        there; it then makes the file `slow-begun`."""
         now, begun = self.beside / "slow-now", self.beside / "slow-begun"
-        self.script("gs", f'#!/bin/sh\ncase "$*" in *tiffsep*) if [ -e "{now}" ]; then : >"{begun}"; exec sleep 3600; fi ;; esac\n'
+        self.script("gs", f'#!/bin/sh\ncase "$*" in {pattern}) if [ -e "{now}" ]; then : >"{begun}"; exec sleep 3600; fi ;; esac\n'
                           f'exec {shutil.which("gs")} "$@"\n')
         return self.stand_ins()
 

@@ -2,7 +2,6 @@
 """press/all: pages that fail beside pages that are done, single pages, what is kept, locks, and what stands in the way."""
 import os
 import signal
-from pathlib import Path
 
 import pytest
 from room import LABEL, Room, needs
@@ -94,16 +93,7 @@ def test_killed_runs_are_cleared_away(room: Room, command: str) -> None:
     room.wait_until(room.left_over, "nothing is at work in the folder", child)
     assert room.stop(child, signal.SIGKILL) == -signal.SIGKILL
     room.rests()
-    clear_temporary(room)
+    room.clear_temporary()
     (room.beside / "slow-now").unlink()
     room.goes(command, "--quiet", "--no-proof", "pair.pdf", "busy")
     assert (room / "busy/page-001/tiff").is_dir()
-
-
-def clear_temporary(room: Room) -> None:
-    """Takes away the temporary files of a run that was killed outright: that is left to the system."""
-    for entry in sorted(room.temporary.rglob("*"), reverse=True):
-        if entry.is_dir() and not entry.is_symlink():
-            entry.rmdir()
-        else:
-            entry.unlink()

@@ -3,9 +3,14 @@
 import subprocess
 from pathlib import Path
 
+import numpy
 import pytest
+import tifffile
 from readers import plate, tiff_plane, tiff_tags
 from room import Room, needs
+
+from press import tiff
+from press.errors import PressError, Status
 
 COLORANTS = ("Cyan", "Magenta", "Yellow", "Black", "Gold Foil", "Warm Red")
 CMYK_PROFILE, RGB_PROFILE = (f"/usr/share/color/icc/ghostscript/{name}.icc" for name in ("default_cmyk", "srgb"))
@@ -142,3 +147,49 @@ def test_files_that_are_no_separations(separations: Room) -> None:
     separations.refused(7, r"press-plates: two\.pdf: no TIFF file", "plates", "--tiff", "Cyan=two.pdf", "new")
     separations.refused(2, r"press-plates: .*turned\(Cyan\)\.tif does not say its resolution .*", "plates", "--tiff",
                         "Cyan=seps/turned(Cyan).tif", "new")
+
+
+# Functions
+
+@pytest.mark.quick
+@pytest.mark.parametrize("dtype, most", [("u1", 255), (">u2", 65_535)])
+def test_separation_comes_back(tmp_path: Path, dtype: str, most: int) -> None:
+    """A plate of 8 or 16 bits has the same samples after it was written as a separation and read as one of another RIP."""
+    array = (numpy.arange(600).reshape(20, 30) * (most // 600)).astype(dtype)
+    path = str(tmp_path / "a(Cyan).tif")
+    tiff.write_separation(path.encode(), array, 300)
+    file = tiff.open_separation(path)
+    assert (file.bits, file.polarity, file.dpi) == (8 * array.dtype.itemsize, tiff.BLACK_IS_ZERO, 300)
+    assert (tiff.read_separation(file, False) == array).all()
+    assert (tiff.read_separation(file, True) == most - array.astype("i4")).all()
+
+
+@pytest.mark.quick
+@pytest.mark.parametrize("dtype, most", [("u1", 255), ("<u2", 65_535)])
+@pytest.mark.parametrize("photometric", ["minisblack", "miniswhite"])
+def test_polarities(tmp_path: Path, dtype: str, most: int, photometric: str) -> None:
+    """Black is full ink, as the file's own polarity has it, with every value of 16 bits."""
+    array = (numpy.arange(600).reshape(20, 30) * (most // 600) + 1).astype(dtype)
+    path = str(tmp_path / "a.tif")
+    tifffile.imwrite(path, array if photometric == "minisblack" else most - array, photometric=photometric, resolution=(600, 600),
+                     resolutionunit="INCH")
+    assert (tiff.read_separation(tiff.open_separation(path), False) == array).all()
+
+
+@pytest.mark.quick
+@pytest.mark.parametrize("data, how, message", [
+    (numpy.zeros((4, 4, 3), dtype="u1"), {"photometric": "rgb"}, "no plate: .* 3 of 8"), (numpy.zeros((4, 4), dtype="u4"), {}, "no plate: .* 1 of 32")])
+def test_files_of_other_kinds(tmp_path: Path, data: numpy.ndarray, how: dict[str, str], message: str) -> None:
+    """Colour, and other depths, are no plate."""
+    path = str(tmp_path / "a.tif")
+    tifffile.imwrite(path, data, **how)
+    with pytest.raises(PressError, match=message) as refusal:
+        tiff.open_separation(path)
+    assert refusal.value.status == Status.PLATES
+
+
+@pytest.mark.quick
+@pytest.mark.parametrize("name, suffix", [(b"Warm Red", b"Warm Red"), (b"100% (matt)", b"100%25 (matt)"), (b"a/b", b"a%2Fb")])
+def test_names_of_files(name: bytes, suffix: bytes) -> None:
+    """A colorant has the name in a file's name that tiffsep gives it."""
+    assert tiff.suffix_of(name) == suffix

@@ -111,6 +111,7 @@ def test_thin_strokes_stay_within_the_box():
     assert [width_at(found, x, 45) for x in (15, 45, 55, 100)] == [0, 0, 0.1, 0.25]
 
 
+@pytest.mark.slow
 def test_thin_strokes_over_a_slanted_zone():
     """A place that a slanted border of the owner's zone crosses is cut along it, to half a point."""
     corner = Statement("a.zones", b"<< /TrapWidth 0.05 >> settrapparams\n"
@@ -166,6 +167,7 @@ def test_boxes_are_joined_before_they_are_given_up():
     assert width_at(found, 20.5, 20.5) == 0.1
 
 
+@pytest.mark.slow
 def test_what_does_not_fit_is_warned_of():
     """An owner's zones that take nearly all of a job leave no room for more."""
     ring = b" ".join([b"0 0 moveto"] + [b"1 0 rlineto"] * 4090)

@@ -224,7 +224,7 @@ def layers():
     """A layer that is off, an annotation that prints and one that does not, a form's field."""
     file = Pdf()
     hidden = file.add("<< /Type /OCG /Name (Cutter) >>")
-    looks = [file.stream(f"/Type /XObject /Subtype /Form /BBox [0 0 60 30]", f"{ink} k 0 0 60 30 re f") for ink in ("0 .8 .8 0", "0 0 0 1", ".5 0 1 0")]
+    looks = [file.stream("/Type /XObject /Subtype /Form /BBox [0 0 60 30]", f"{ink} k 0 0 60 30 re f") for ink in ("0 .8 .8 0", "0 0 0 1", ".5 0 1 0")]
     notes = [file.add(f"<< /Type /Annot /Subtype {kind} /Rect [{x} 20 {x + 60} 50] /F {flags} {more} /AP << /N {look} >> >>")
              for kind, x, flags, more, look in (("/Square", 20, 4, "", looks[0]), ("/Square", 100, 0, "", looks[1]),
                                                 ("/Widget", 180, 4, "/FT /Tx /T (Name)", looks[2]))]

@@ -141,8 +141,8 @@ class Painter:
     def added(self, part: Part) -> Array:
         """The same of one band."""
         left, top, width, height = part
-        pale = self.laid_over([shifted(plane, (0, 0), part) for plane in self.before]).sum(axis=2, dtype="u4") // 3
-        out: Array = numpy.repeat((205 + pale * 50 // 255)[:, :, None], 3, axis=2).astype("u1")
+        gray = self.laid_over([shifted(plane, (0, 0), part) for plane in self.before]).sum(axis=2, dtype="u4") // 3
+        out: Array = numpy.repeat((205 + gray * 50 // 255)[:, :, None], 3, axis=2).astype("u1")
         where = self.changed[top:top + height, left:left + width]
         added = numpy.full((numpy.count_nonzero(where), 3), 255, dtype="u4")
         for light, old, new in zip(self.lights, self.before, self.after):

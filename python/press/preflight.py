@@ -291,8 +291,7 @@ def check_page(page: Page, settings: Settings, book: InkBook, place: str | None 
 
 def merged(findings: Sequence[Finding], source: Source, page: int, report: PageReport,
            settings: Settings) -> list[Finding]:
-    """The findings of a file with those of a page, whose size is checked anew once it is known which plates have
-    ink."""
+    """The findings of a file with those of a page, whose size is checked anew once its plates with ink are known."""
     info = source.page(page)
     early = size_finding(info, settings, page, 1) if info and report.needs else None
     return list(dict.fromkeys([one for one in findings if one != early] + list(report.findings)))
