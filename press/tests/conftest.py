@@ -124,7 +124,9 @@ class Pages:
 @pytest.fixture(scope="session", name="pages")
 def fixture_pages(tmp_path_factory: pytest.TempPathFactory, samples: Path, programs: Path, environment: dict[str, str]) -> Pages:
     """Page folders, made once for all tests of this process."""
-    return Pages(make_room(tmp_path_factory.mktemp("pages"), samples, programs, environment))
+    room = make_room(tmp_path_factory.mktemp("pages"), samples, programs, environment)
+    room.is_quick = COMMANDS == TOP / "press"
+    return Pages(room)
 
 
 @pytest.fixture(name="two")
