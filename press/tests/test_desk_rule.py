@@ -33,6 +33,7 @@ def random_job(seed: int):
         return rng, picture, text, None
 
 
+@pytest.mark.slow
 def test_valid_jobs_are_read_as_the_reference_implementation_reads_them():
     """Resolution, inks, zones, parameters, paths and step limits of 500 random jobs."""
     valid = 0
