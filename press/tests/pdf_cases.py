@@ -241,13 +241,14 @@ def with_annotations() -> pikepdf.Pdf:
 
 # Page folders
 
-def draw(path: Path, folder: Path, dpi: int, box: str) -> list[dict[bytes, Any]]:
+def draw(path: Path, folder: Path, dpi: int, box: str, icc: Path | None = None) -> list[dict[bytes, Any]]:
     """The plates of each page by tiffsep, by each ink's name."""
+    profile = [f"-sOutputICCProfile={icc}", f"--permit-file-read={icc}"] if icc else []
     count = len(pikepdf.open(path).pages)
     with tempfile.TemporaryDirectory(dir=folder) as scratch:
         subprocess.run(["gs", "-q", "-dSAFER", "-dNOPAUSE", "-dBATCH", "-dPDFSTOPONERROR", "-sDEVICE=tiffsep",
                         f"-r{dpi}", "-dMaxBitmap=0", "-dMaxSpots=60", "-sCompression=none",
-                        f"-sOutputFile={scratch}/page%d.tif", *BOX_OPTIONS[box], str(path)],
+                        f"-sOutputFile={scratch}/page%d.tif", *BOX_OPTIONS[box], *profile, str(path)],
                        check=True, stdout=subprocess.DEVNULL)
         pages: list[dict[bytes, Any]] = [{} for _ in range(count)]
         for file in sorted(os.listdir(os.fsencode(scratch))):
@@ -286,10 +287,10 @@ def write_folder(folder: Path, plates: dict[bytes, Any], source: PageSource) -> 
     write_table(str(folder), source, tuple(inks))
 
 
-def folders_of(path: Path, dpi: int = 72, box: str = "media") -> list[Path]:
+def folders_of(path: Path, dpi: int = 72, box: str = "media", icc: Path | None = None) -> list[Path]:
     """A page folder for each page of a file."""
     folders = []
-    for number_of_page, plates in enumerate(draw(path, path.parent, dpi, box), 1):
+    for number_of_page, plates in enumerate(draw(path, path.parent, dpi, box, icc), 1):
         folder = path.parent / f"{path.stem}-{dpi}-{number_of_page}"
         write_folder(folder, plates, PageSource(os.fsencode(path.name), number_of_page, dpi))
         folders.append(folder)

@@ -20,6 +20,7 @@ from press.plates import read_pgm, write_pgm
 from press.trapped_page import read_trapped_page
 
 OUTPUT = "trapped.pdf"
+PROFILE = Path("/usr/share/color/icc/ghostscript/ps_cmyk.icc")
 FONT = "page 1: the file does not embed Helvetica: where another face stands in its place, the traps do not fit"
 
 
@@ -148,6 +149,19 @@ def test_a_tile_of_many_tints(tmp_path: Path) -> None:
     with pikepdf.open(tmp_path / OUTPUT) as pdf:
         images = pdf.pages[0].resources.XObject.Traps.Resources.XObject
         assert images.T1.ColorSpace[0] == Name.DeviceN and len(images.T1.Mask) == 8
+
+
+@pytest.mark.skipif(not PROFILE.exists(), reason="Ghostscript's profiles are not there")
+def test_profiles_of_the_press(tmp_path: Path) -> None:
+    """Colours that are no inks go through the profile that is given, or through the file's output intent."""
+    pdf = one_page(ART + b".9 .2 .3 rg 120 30 60 60 re f")
+    stream = pdf.make_stream(PROFILE.read_bytes(), N=4)
+    pdf.Root.OutputIntents = Array([Dictionary(Type=Name.OutputIntent, S=Name.GTS_PDFX, DestOutputProfile=stream)])
+    path = saved(pdf, tmp_path / "in.pdf")
+    folders = folders_of(path, icc=PROFILE)
+    assert trapped(path, folders, icc=str(PROFILE)).verified
+    assert trapped(path, folders, output_intent=True).verified
+    assert "has tint" in str(refusal(path, folders))
 
 
 # Refusals

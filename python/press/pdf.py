@@ -2,13 +2,14 @@
 """A trapped PDF: the pages of a PDF as they are, with the traps that were made of their plates on top, as one layer."""
 import io
 import os
+import tempfile
 from collections.abc import Sequence
 from dataclasses import dataclass, field
 from typing import Any, BinaryIO
 
 import pikepdf
 
-from .content import fonts_outside
+from .content import fonts_outside, intent_profile
 from .errors import PressError, Status
 from .output_report import full_disk_refused
 from .pdf_grid import box_of_plates, grid_matrix, inherited
@@ -33,6 +34,7 @@ class PdfSettings:
     anchor: str = "top"
     box: str | None = None
     icc: str | None = None
+    output_intent: bool = False
     verify: bool = True
     strict: bool = False
     force: bool = False
@@ -180,7 +182,11 @@ def expected_of(done: PageResult, icc: str | None) -> Expected:
 
 def prove(path: str, result: PdfResult, settings: PdfSettings, shown: str) -> None:
     """Renders the file again, and refuses it if a byte of a trapped plate differs."""
-    different = verify(path, [expected_of(done, settings.icc) for done in result.pages], os.path.dirname(path) or ".")
+    with tempfile.TemporaryDirectory(prefix="press-") as scratch:
+        profile = settings.icc
+        if settings.output_intent and not profile and intent_profile(path, os.path.join(scratch, "intent.icc")):
+            profile = os.path.join(scratch, "intent.icc")
+        different = verify(path, [expected_of(done, profile) for done in result.pages], os.path.dirname(path) or ".")
     if different is not None:
         raise PressError(Status.PDF, different.line(), f"{shown}: page {different.page}")
     result.verified = True

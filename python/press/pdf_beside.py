@@ -22,7 +22,7 @@ def write_beside(source: Source, out: str, settings: Settings) -> list[str]:
     done, _ = JobFolder(out).pages()
     pages = [read_trapped_page(done[number]) for number in sorted(done)]
     final = os.path.join(out, trapped_name(source.path))
-    how = PdfSettings(box=settings.box, icc=settings.icc, strict=settings.strict)
+    how = PdfSettings(box=settings.box, icc=settings.icc, output_intent=settings.output_intent, strict=settings.strict)
     with whole_file(final) as made:
         result = write_trapped_pdf(source.pdf, made, pages, how, source.path)
     write_pdf_report(final, source.path, how, result)
