@@ -12,7 +12,7 @@ import numpy as np
 from .command import version
 from .files import need_room, write_text
 from .names import readable
-from .plates import Array
+from .plates import Array, release
 from .trapped_page import TrappedPage
 
 ROWS = 1024
@@ -37,16 +37,19 @@ def digest_of(path: str) -> str:
     return found.hexdigest()
 
 
-def coverage(plate: Array) -> float:
-    """The mean tint of a plate of 8 bits, in per cent."""
-    total = sum(int((255 - plate[top:top + ROWS].astype(np.int64)).sum()) for top in range(0, plate.shape[0], ROWS))
-    return round(total * 100 / 255 / max(1, plate.size), 3)
+def coverage(plate: Array, maxval: int = 255) -> float:
+    """The mean tint of a plate, in per cent."""
+    total = sum(int((maxval - plate[top:top + ROWS].astype(np.int64)).sum()) for top in range(0, plate.shape[0], ROWS))
+    release(plate)
+    return round(total * 100 / maxval / max(1, plate.size), 3)
 
 
 def changed(before: Array, after: Array) -> int:
     """How many pixels of a plate trapping changed."""
-    return sum(int(np.count_nonzero(before[top:top + ROWS] != after[top:top + ROWS]))
-               for top in range(0, after.shape[0], ROWS))
+    count = sum(int(np.count_nonzero(before[top:top + ROWS] != after[top:top + ROWS]))
+                for top in range(0, after.shape[0], ROWS))
+    release(before, after)
+    return count
 
 
 def ink_figures(page: TrappedPage) -> list[dict[str, Any]]:

@@ -7,7 +7,7 @@ from dataclasses import dataclass
 import numpy as np
 from numpy.typing import NDArray
 
-from .plates import Plates
+from .plates import Plates, release
 
 Samples = NDArray[np.uint8]
 Mask = NDArray[np.bool_]
@@ -151,6 +151,7 @@ def tile_images(before: Plates, after: Plates, margin: int, count: TrapCount) ->
     """The images that paint what trapping changed, and so many pixels around it. One band of rows is in memory at a
     time."""
     for first, end, top, bottom in after.bands(SIDE, margin):
+        release(*before.arrays, *after.arrays)
         changed = changed_rows(before, after, top, bottom)
         if not changed.any():
             continue

@@ -14,6 +14,7 @@ from .errors import PressError, Status
 from .files import need_room
 from .names import readable
 from .pdf_tiles import Samples
+from .plates import release
 from .render import BOX_OPTIONS, colorant_in, link
 from .source import complaint, ghostscript
 
@@ -107,6 +108,7 @@ def compare_page(expected: Expected, files: dict[bytes, str]) -> Difference | No
             raise PressError(Status.PDF, f"Ghostscript draws {found.shape[1]} by {found.shape[0]} pixels, and the "
                              f"plates have {wanted.shape[1]} by {wanted.shape[0]}", f"page {expected.page}")
         place = first_difference(found, wanted)
+        release(found, wanted)
         if place is not None:
             x, y, count = place
             return Difference(expected.page, ink, x, y, int(found[y, x]), int(wanted[y, x]), count)

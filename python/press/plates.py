@@ -4,6 +4,7 @@
 An array has rows × columns from the upper left corner. As in a PGM file, 0 is full ink and `maxval` is no ink.
 8-bit samples are `u1`; 16-bit samples are big-endian, `>u2`, as in the file.
 """
+import mmap
 import os
 import re
 from collections.abc import Iterator
@@ -76,6 +77,14 @@ class Plates:
         for first in range(0, self.height, rows):
             end = min(self.height, first + rows)
             yield first, end, max(0, first - overlap), min(self.height, end + overlap)
+
+
+def release(*arrays: Array) -> None:
+    """Lets go of the memory of mapped plates that were read. They are read again when they are looked at."""
+    for array in arrays:
+        mapped = getattr(array, "_mmap", None)
+        if isinstance(mapped, mmap.mmap) and hasattr(mmap, "MADV_DONTNEED"):
+            mapped.madvise(mmap.MADV_DONTNEED)
 
 
 def is_blank(array: Array, maxval: int) -> bool:

@@ -17,7 +17,9 @@ from .errors import PressError, Status, UsageError, reason
 from .files import folder_beside, head_of
 from .folder import PageFolder
 from .inks import Ink
-from .names import PROCESS
+from .multi_tiff import multi_tags
+from .names import PROCESS, readable
+from .output_report import coverage, file_figures, write_report
 from .plates import Array, Plates
 
 STRIP_BYTES, MOST_BYTES, LEVEL = 1 << 20, (1 << 32) - (1 << 24), 6
@@ -40,6 +42,8 @@ class TiffOptions:
     trapped: bool = True
     channels: bool = False
     icc: str | None = None
+    multi: bool = False
+    report: bool = False
 
 
 def write_tiffs(page: PageFolder, out: str, options: TiffOptions) -> None:
@@ -64,6 +68,10 @@ def write_tiffs(page: PageFolder, out: str, options: TiffOptions) -> None:
             write_separation(inside + b"(" + ink.suffix + b").tif", array, page.source.resolution)
         write_composite(inside + b".tif", page.inks, plates, options.channels)
         picture.write_overview(inside + b".png", page, options.trapped, options.icc)
+        if options.multi:
+            write_multi(inside + b"-multi.tif", page, plates)
+        if options.report:
+            write_report_of(made, os.fsdecode(name), page, plates)
         for file in os.listdir(os.fsencode(made)):
             os.replace(os.path.join(os.fsencode(made), file), os.path.join(os.fsencode(out), file))
 
@@ -95,6 +103,23 @@ def write_composite(path: bytes, inks: Sequence[Ink], plates: Plates, channels: 
     with tifffile.TiffWriter(os.fsdecode(path), bigtiff=False, byteorder="<") as writer:
         for page in composite_pages(inks, plates, channels):
             write_page(writer, page, plates)
+
+
+def write_multi(path: bytes, page: PageFolder, plates: Plates) -> None:
+    """Writes all inks as channels of one page, in which the greatest value is full ink, packed by Deflate."""
+    tags = multi_tags(page.inks, page.path)
+    with tifffile.TiffWriter(os.fsdecode(path), bigtiff=False, byteorder="<") as writer:
+        write_page(writer, TiffPage(plates.arrays, "separated", tags), plates)
+
+
+def write_report_of(folder: str, name: str, page: PageFolder, plates: Plates) -> None:
+    """Writes the report of the files in a folder: the inks, and each file with its digest."""
+    inks = [{"name": readable(ink.colorant), "job_name": ink.name, "coverage": coverage(array, plates.maxval)}
+            for ink, array in zip(page.inks, plates.arrays)]
+    files = [file_figures(os.path.join(folder, file), file) for file in sorted(os.listdir(folder))]
+    write_report(os.path.join(folder, name + ".json"), "press-tiff", {
+        "page": page.source.page, "resolution": page.source.resolution, "width": plates.width, "height": plates.height,
+        "inks": inks, "files": files})
 
 
 def write_page(writer: tifffile.TiffWriter, page: TiffPage, plates: Plates) -> None:
