@@ -9,7 +9,7 @@ import pytest
 from press.errors import UsageError
 from press.inks import InkBook, Separation
 from press.job_language import read_job
-from press.layout import lay_out, layer_entries, layer_lines, trap_box, usual_box
+from press.layout import lay_out, layer_entries, layer_lines, pictures_alone, trap_box, usual_box
 from press.marks import Mark, above, outline_of
 from press.plates import Plates
 from press.rects import Rect
@@ -83,6 +83,13 @@ def test_a_frame_is_its_outline() -> None:
     assert len(boxes) == 4 and not any(box.common(Rect(10, 10, 70, 50)).area for box in boxes)
     assert len(outline_of([[(0, 0), (8, 0), (4, 6)]], True, 0)) == 1
     assert len(outline_of([[(0, 0), (80, 60)]], False, 0.5)) == 15
+
+
+def test_no_strokes_are_looked_for_in_pictures_alone() -> None:
+    """What is drawn above an image is looked at."""
+    left = pictures_alone([Rect(0, 0, 100, 100), Rect(200, 0, 300, 100)], [Rect(40, 40, 60, 60)])
+    assert sum(rect.area for rect in left) == 20_000 - 400
+    assert not any(rect.meets(Rect(40, 40, 60, 60)) for rect in left)
 
 
 def trace_of(*elements: tuple[str, dict[str, str]]) -> Trace:

@@ -22,8 +22,8 @@ from .job_language import KEYS, SCALE, Parameters
 from .marks import above
 from .pairs import pair_places, read_pairs
 from .plates import Plates
-from .rects import NOTHING, Rect
-from .regions import box_on_page
+from .rects import NOTHING, Rect, without
+from .regions import box_on_page, fewer
 from .settings import Settings
 from .source import BOX_NAMES, PageInfo
 from .strokes import SHARE, Box, find_strokes
@@ -34,6 +34,8 @@ from .trace import Trace
 from .zones import IMAGES, LAYERS, OWNER, TRIM, Composed, Layer, Pair, Wanted, base_rule, compose, reach
 
 BIG = 255
+# So many holes are cut out of images in which no strokes are looked for.
+MOST_HOLES = 200
 # From this share of a page on it is warned that it is not trapped.
 MUCH = 0.005
 REASONS = {IMAGES: "images (--trap-images)", TRIM: "outside the box of --trap-within", LAYERS: "layers (--layer)",
@@ -119,7 +121,7 @@ def lay_out(own: Sequence[Statement], info: PageInfo | None, trace: Trace | None
                     tuple(pair_zones(plates, inks, rule, settings)), tuple(places), tuple(over), settings.only_zones)
     if not settings.thin_zones:
         return finished(compose(own, wanted), None)
-    skip = [pixels_of(place, size, plates) for place in places] if not over else []
+    skip = [pixels_of(place, size, plates) for place in pictures_alone(places, over)]
     lines, parts = strokes_of(plates, inks, rule, skip)
     boxes = boxes_by_width(lines, stroke_rule(rule), plates.resolution)
     thin = {width: [points_of(one, plates) for one in some] for width, some in boxes.items()}
@@ -178,6 +180,19 @@ def image_places(own: Sequence[Statement], info: PageInfo | None, trace: Trace |
         return places, []
     over = above(trace.marks, images.ordered_bounds(trace.images), margin)
     return places, images.moved_to_page(over, info, settings.box)
+
+
+def pictures_alone(places: Sequence[Rect], over: Sequence[Rect]) -> list[Rect]:
+    """The places of images, without what is drawn above them."""
+    holes = fewer(over, MOST_HOLES)
+    left = []
+    for place in places:
+        pieces = [place]
+        for hole in holes:
+            if hole.meets(place):
+                pieces = [rest for piece in pieces for rest in without(piece, hole)]
+        left += pieces
+    return left
 
 
 def layer_entries(words: Sequence[str]) -> dict[str, dict[str, float | bool]]:

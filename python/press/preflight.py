@@ -19,7 +19,7 @@ from .inkedits import twins
 from .inks import Ink, InkBook, Separation, folded, unsure_lines
 from .layout import box_line, layer_lines
 from .names import MOST_PLATES, PROCESS, job_names, readable
-from .page import Page, layout_of, prepare, room_line
+from .page import Page, edits_of, layout_of, prepare, room_line
 from .plates import LONGEST_SHEET_SIDE, LONGEST_SIDE, MOST_SAMPLES, Array, Plates, fits_page
 from .settings import Settings
 from .source import BOX_NAMES, PageInfo, Source, is_empty, lacks_box, open_source
@@ -249,6 +249,9 @@ def stranger_findings(source: Source, book: InkBook, pages: Sequence[int]) -> It
             book.meet(colorant, name)
     for line, _ in book.strangers():
         yield Finding("inks-line", WARNING, None, line)
+    own = edits_of(book.settings, InkBook(Settings(), None))
+    for name in sorted({*own.merge, *own.rename, *own.to_process, *own.drop} - book.met):
+        yield Finding("inks-line", WARNING, None, f"no colorant of the page is called {readable(name)}")
 
 
 # A page
