@@ -62,14 +62,14 @@ def width_of(text: str, what: str) -> float:
 
 
 def factor_of(text: str, what: str) -> float:
-    """How many times as wide a trap is at black."""
+    """The factor of the trap width at black."""
     return number(text, 0.0001, 10, what)
 
 
 def share_of(text: str, what: str) -> float:
     """A share of 1, or hundredths with a % after them."""
-    bare, percent = (text[:-1], True) if text.endswith("%") else (text, False)
-    return number(bare, 0, 100 if percent else 1, what) / (100 if percent else 1)
+    digits, percent = (text[:-1], True) if text.endswith("%") else (text, False)
+    return number(digits, 0, 100 if percent else 1, what) / (100 if percent else 1)
 
 
 @dataclass(frozen=True)
@@ -235,39 +235,38 @@ def add_page_options(parser: argparse.ArgumentParser) -> None:
     """The options of how a page is rendered, its inks, parameters and zones."""
     add = parser.add_argument
     add("-r", "--dpi", metavar="N", type=whole("--dpi", 1, 10_000),
-        help='pixels per inch, 600 where it is left out; with --tiff what the files say')
+        help='pixels per inch; the default is 600, and with --tiff that of the files')
     add("-b", "--box", metavar="BOX", type=box_of,
-        help='which box of the page is drawn: "media", where it is left out, "crop", "bleed", "trim" or "art"')
+        help='which box of the page is rendered: "media" (the default), "crop", "bleed", "trim" or "art"')
     add("-d", "--density", metavar="NAME=D", action="append",
         help="the neutral density of a colorant's full ink, from 0.001 to 10")
     add("-k", "--kind", metavar="NAME=KIND", action="append",
-        help='how a colorant is trapped, by a kind of trap-job(5): "Transparent" for a varnish, say, or "OpaqueIgnore" '
-             'for a foil')
+        help='how a colorant is trapped, by a kind of trap-job(5), such as "Transparent" for a varnish or '
+             '"OpaqueIgnore" for a foil')
     add_ink_options(parser)
     add("-i", "--inks", metavar="FILE",
         help='a table of inks: in each line a name, a density, and a kind, with tabs between them; "-" leaves a '
              'density open, and a kind may be left out')
     add("-z", "--zones", metavar="FILE",
         help='statements of the job language, see trap-job(5), that are put before "showpage": trapping parameters and '
-             'zones. What they set counts before the words of the command line')
+             'zones. They override options')
     add("--icc", metavar="FILE",
-        help="the profile of the press, by which colours that are no inks are separated, and inks are looked at")
+        help="the profile of the press, by which colours that are not inks are separated, and inks are drawn")
     add("--output-intent", action="store_true", default=None,
         help="takes the profile of the file's own output intent as --icc, if it has one")
     add("--total-ink", metavar="SHARE", type=total_of,
-        help="from how much ink on preflight names the place: 300%% where it is left out")
+        help="the total ink above which preflight reports the place; the default is 300%%")
     add("-p", "--preset", metavar="NAME",
         help='trapping parameters by a name: "offset", "flexo", "gravure", "screen", or one of the house')
-    add("-w", "--width", metavar="W", help="how far a trap reaches, with its unit: 0.1mm, 100um, 0.25pt or 0.004in")
-    add("--black-width", metavar="F", help="how many times as far a trap reaches at black, to 10")
+    add("-w", "--width", metavar="W", help="the trap width, with its unit: 0.1mm, 100um, 0.25pt or 0.004in")
+    add("--black-width", metavar="F", help="a factor of the trap width at black, up to 10")
     add("--step", metavar="S",
-        help="how much two inks have to change, each its own way, for an edge to be trapped: 0.25 or 25%%")
+        help="the minimum change of two inks, one falling and another rising, for an edge to be trapped: 0.25 or 25%%")
     add("--slide", metavar="S",
-        help="from which ratio of densities on a trap lies on both sides of the edge, at half its width each: 0.7 or "
-             "70%%")
+        help="the minimum ratio of densities for the trap to be centred on the edge (a sliding trap): 0.7 or 70%%")
     add("--scale", metavar="S", help="how much of the added ink a trap keeps: 1 or 100%%")
     add("--trap-images", action="store_true", default=None,
-        help="traps within images too; where it is left out, their places become zones that are not enabled")
+        help="traps within images too; without it their places become zones that are not enabled")
     add_zone_options(parser)
     add_time_option(parser)
 
@@ -277,13 +276,13 @@ def add_ink_options(parser: argparse.ArgumentParser) -> None:
     add = parser.add_argument
     add("--role", metavar="NAME=ROLE", action="append",
         help="what a colorant is for: process, spot, white, varnish, metallic or technical; its kind and density "
-             "follow where they are not given")
+             "follow if they are not given")
     add("--merge", metavar="OLD=KEPT", action="append", help="prints one spot with the plate of another")
     add("--merge-suffixes", action="store_true", default=None,
-        help="prints swatches of one number with one plate, PANTONE 485 C and PANTONE 485 CVC say")
+        help="prints swatches of one number with one plate, such as PANTONE 485 C and PANTONE 485 CVC")
     add("--to-process", metavar="NAME", action="append",
         help="prints a spot with the process inks that the PDF gives for it")
-    add("--drop", metavar="NAME", action="append", help="leaves the plate of a spot out")
+    add("--drop", metavar="NAME", action="append", help="removes the plate of a spot")
     add("--rename", metavar="OLD=NEW", action="append", help="gives the plate of a spot another name")
 
 
@@ -293,26 +292,26 @@ def add_zone_options(parser: argparse.ArgumentParser) -> None:
     add("--pairs", metavar="FILE",
         help='a table of pairs of inks: in each line two inks and "under", by which the first spreads under the '
              'second, "never", or a factor of the trap width where they meet, with tabs between them. A file '
-             'label.pairs beside label.pdf is taken by itself, and else pairs.inks of the house')
+             'label.pairs next to label.pdf is used automatically, or else pairs.inks of the house')
     add("--no-traps-over-images", dest="over_images", action="store_false", default=None,
-        help="traps no type and line work above images either")
+        help="does not trap type and line work above images either")
     add("--trap-within", metavar="BOX", type=within_of,
-        help='keeps traps within the page\'s "bleed" or "trim" box, or allows them everywhere with "media". Where '
-             'it is left out, the bleed box if it lies inside the media box, else the trim box if there is one')
+        help='keeps traps within the page\'s "bleed" or "trim" box, or allows them everywhere with "media". The '
+             'default is the bleed box if it is inside the media box, else the trim box if there is one')
     add("--only-zones", action="store_true", default=None,
-        help="traps nothing outside the zones of the zones file; where it is left out, they are added to the page")
+        help="traps nothing outside the zones of the zones file; without it they are added to the page")
     add("--no-thin-zones", dest="thin_zones", action="store_false", default=None,
-        help="gives small type and thin lines the trap width of the page; where it is left out, they get a third of "
-             "their own thickness")
+        help="gives small type and thin lines the trap width of the page; without it they get a third of their "
+             "own thickness")
     add("--layer", metavar="NAME=..", action="append",
-        help="parameters where a layer paints: NAME=off, or NAME=KEY=VALUE[,KEY=VALUE] with the keys of trap-job(5), "
-             '"White=Enabled=false" say')
+        help="parameters for what a layer paints: NAME=off, or NAME=KEY=VALUE[,KEY=VALUE] with the keys of "
+             'trap-job(5), such as "White=Enabled=false"')
 
 
 def total_of(text: str) -> float:
     """A sum of tints: 300% or 3."""
-    bare, percent = (text[:-1], True) if text.endswith("%") else (text, False)
-    return number(bare, 0, 1600 if percent else 16, "--total-ink") / (100 if percent else 1)
+    digits, percent = (text[:-1], True) if text.endswith("%") else (text, False)
+    return number(digits, 0, 1600 if percent else 16, "--total-ink") / (100 if percent else 1)
 
 
 def within_of(text: str) -> str:
@@ -332,7 +331,7 @@ def box_of(text: str) -> str:
 def add_time_option(parser: argparse.ArgumentParser) -> None:
     """The limit of Ghostscript's time."""
     parser.add_argument("-t", "--time", metavar="S", type=whole("--time", 1, MOST_SECONDS),
-                        help="refuses a page that Ghostscript is at for more than S seconds")
+                        help="refuses a page whose rendering takes more than S seconds")
 
 
 def add_engine_options(parser: argparse.ArgumentParser) -> None:
@@ -342,8 +341,8 @@ def add_engine_options(parser: argparse.ArgumentParser) -> None:
     add("--band", metavar="B", type=whole("--band", 1, 4096), help="how many rows a band has, 1 to 4096")
     add("-c", "--check", metavar="R", type=whole("--check", 0, 16),
         help='runs the program "presscheck" too, with a radius of 0 to 16 samples, and keeps what it prints in '
-             'DIR/trapped/check: how many samples a press out of register by so much could leave bare, before and '
-             'after. Where the program is not there, that is printed and nothing is done')
+             'DIR/trapped/check: how many pixels that misregistration could leave unprinted, before and after. If the '
+             'program is not installed, that is printed and nothing is counted')
 
 
 def add_tiff_options(parser: argparse.ArgumentParser) -> None:
@@ -358,10 +357,10 @@ def add_run_options(parser: argparse.ArgumentParser) -> None:
     """The options of what a run keeps of each page."""
     add = parser.add_argument
     add("--tiff-only", action="store_true", default=None,
-        help="keeps no plates of a page that is done, but its TIFF files, job, report, table and proof")
+        help="keeps no plates of a finished page, but its TIFF files, job, report, table and preview")
     add("--pdf", action="store_true", default=None,
-        help="makes a trapped PDF of all pages that are done too, OUT/NAME-trapped.pdf, as press/pdf does")
-    add("--no-proof", dest="proof", action="store_false", default=None, help="makes no proof sheet")
+        help="writes a trapped PDF of all finished pages too, OUT/NAME-trapped.pdf, as press/pdf does")
+    add("--no-proof", dest="proof", action="store_false", default=None, help="writes no preview")
     add("--look", action="store_true", default=None,
         help="draws pictures of each page too, by press/look: page.png, traps.png, and register.png, the part with "
              "most traps out of register")
@@ -376,10 +375,10 @@ def add_made_options(parser: argparse.ArgumentParser) -> None:
 
 
 def add_page_choice(parser: argparse.ArgumentParser) -> None:
-    """The option for pages, and those that judge them."""
+    """The option for pages, and those that decide on them."""
     add = parser.add_argument
     add("-P", "--page", metavar="K", action="append",
         help="this page alone; also J-K, and several with commas between them")
-    add("-s", "--strict", action="store_true", default=None, help="a page that is warned of is refused")
+    add("-s", "--strict", action="store_true", default=None, help="treats warnings as errors")
     add("-j", "--jobs", metavar="N", type=whole("--jobs", 1, MOST_JOBS),
-        help="how many pages are done at once; 1 where it is left out")
+        help="how many pages are made at once; the default is 1")
