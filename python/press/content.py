@@ -23,13 +23,13 @@ from .tables import counts
 from .trace import Trace
 
 MILLIMETRES = 25.4 / 72
-# The spaces that a press prints by itself, as the trace names them.
+# The spaces that need no conversion, as the trace names them.
 OF_PLATES = re.compile(r"DeviceCMYK|DeviceGray|Separation\(.*|DeviceN\(.*|None|")
 # Type is black from these parts on, and made of several inks if others have at least so much.
 DARK_RGB, DARK_BLACK, OTHER_INK = 0.25, 0.5, 0.1
 # Type and lines below so many points are small; an ink that covers so much of the ground is one of it.
 SMALL_TYPE, HAIRLINE, GROUND_SHARE = 7.0, 0.25, 0.3
-# An image with fewer pixels an inch is coarse.
+# An image of less dpi is coarse.
 COARSE = 150.0
 BAND_ROWS = 256
 
@@ -106,7 +106,7 @@ def untrapped_edges(plates: Plates, inks: Sequence[Ink], page: int, step: float)
 
 
 def meeting(one: Array, other: Array, least: float) -> int:
-    """Between how many neighbours one plate gains ink and the other one loses it, each by a step."""
+    """Between how many neighbours one plate gains ink and another loses it, each by a step."""
     count, need = 0, max(1, int(least + 0.999))
     for start in range(0, one.shape[0], BAND_ROWS):
         first, second = (array[start:start + BAND_ROWS + 1].astype(numpy.int32) for array in (one, other))
@@ -163,7 +163,7 @@ def line_findings(trace: Trace, info: PageInfo, settings: Settings, page: int) -
 
 def reversed_findings(trace: Trace, plates: Plates, inks: Sequence[Ink], info: PageInfo, settings: Settings,
                       page: int) -> Iterator[Finding]:
-    """Small type of bare paper in a ground of several inks."""
+    """Small white type in a ground of several inks."""
     for paint in trace.paints.values():
         if not paint.size or paint.size >= SMALL_TYPE or not is_paper(paint):
             continue
@@ -176,7 +176,7 @@ def reversed_findings(trace: Trace, plates: Plates, inks: Sequence[Ink], info: P
 
 
 def is_paper(paint: Any) -> bool:
-    """Whether a colour is that of bare paper."""
+    """Whether a colour is that of unprinted paper."""
     if paint.space == "DeviceCMYK" or paint.space.startswith(("Separation", "DeviceN")):
         return bool(paint.colour) and not any(paint.colour)
     return bool(paint.colour) and min(paint.colour) >= 1

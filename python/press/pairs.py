@@ -16,7 +16,7 @@ import numpy.typing as npt
 
 from .errors import PressError, Status, UsageError
 from .files import beside
-from .inks import Ink, entries_of
+from .inks import Ink, Origin, entries_of
 from .names import readable
 from .settings import Settings, house_file
 from .strokes import Box, edges_of, steps_of
@@ -99,7 +99,7 @@ def directed(inks: Sequence[Ink], rules: Sequence[PairRule]) -> list[Ink]:
             continue
         for at, density in ((one, float(darker.density) - STEP), (other, float(lighter.density) + STEP)):
             if density >= 0.001 and is_free(out, at, density, (one, other)):
-                origin = replace(out[at].density_from, rank="told", text=f"{rule.place}: by its direction")
+                origin = Origin("told", f"{rule.place}: by its direction")
                 out[at] = replace(out[at], density=f"{density:.2f}", density_from=origin)
                 break
         else:

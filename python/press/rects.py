@@ -22,7 +22,7 @@ class Rect(NamedTuple):
         return (self.right - self.left) * (self.upper - self.lower)
 
     def common(self, other: "Rect") -> "Rect":
-        """What it has in common with another; NOTHING where that is nothing."""
+        """What it has in common with another, or NOTHING."""
         both = Rect(max(self.left, other.left), max(self.lower, other.lower), min(self.right, other.right),
                     min(self.upper, other.upper))
         return both if both.left < both.right and both.lower < both.upper else NOTHING
@@ -42,7 +42,7 @@ NOTHING = Rect(0, 0, 0, 0)
 
 
 def rect_of(points: Polygon) -> Rect | None:
-    """The rectangle that a polygon is, or None where it is another shape."""
+    """The rectangle that a polygon is, or None for another shape."""
     xs, ys = sorted({round(x, SAME) for x, _ in points}), sorted({round(y, SAME) for _, y in points})
     if len(xs) != 2 or len(ys) != 2:
         return None

@@ -132,8 +132,8 @@ def side_meets(start: Point, end: Point, rect: Rect) -> bool:
 
 
 def split_by(rect: Rect, shape: Shape) -> tuple[list[Rect], list[Rect]]:
-    """A rectangle in pieces: those within a shape, and those outside it. Where the shape's border is slanted, pieces
-    below half a point are neither."""
+    """A rectangle in pieces: those within a shape, and those outside it. At a slanted border pieces below half a point
+    are neither."""
     bounds = around([point for points in shape for point in points]) if any(shape) else NOTHING
     if rect.common(bounds) == NOTHING:
         return [], [rect]

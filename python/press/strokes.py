@@ -120,8 +120,8 @@ def steps_of(inks: Sequence[Ink], rule: Rule) -> list[int]:
 
 
 def edges_of(planes: Sequence[Plane], steps: Sequence[int]) -> Edges:
-    """Where any plane changes by its step; and where one rises and another one falls, which is an edge that calls
-    for a trap."""
+    """The edges at which any plane changes by its step; those at which one rises and another falls call for a
+    trap."""
     height, width = planes[0].shape
     out = [np.zeros((height, width), bool) for _ in range(4)]
     for plane, step in zip(planes, steps):
@@ -319,8 +319,7 @@ class Covers:
 
 @dataclass
 class Window:
-    """A stretch of a strip that has edges to trap: its planes with a margin around, and where it stands on the
-    page."""
+    """A stretch of a strip that has edges to trap: its planes with a margin around, and its place on the page."""
 
     planes: list[Plane]
     left: int
@@ -487,7 +486,7 @@ class Strip:
                     or (right[:, :-1] & some[:, 1:]).any() or (lower[:-1] & some[1:]).any())
 
     def thin_pixels(self, window: Window, edges: Edges) -> Mask:
-        """What no thick shape reaches: thick is where no edge is near, and all around that."""
+        """What no thick shape reaches: it is thick around every pixel without an edge near."""
         touching = edges.right | edges.lower
         touching[:, 1:] |= edges.right[:, :-1]
         touching[1:] |= edges.lower[:-1]

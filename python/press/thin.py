@@ -6,7 +6,7 @@ third of its stroke; `boxes_by_width` says where, and `own_share` how much of th
 
 Vocabulary
 
-- A line is parts of one colour that stand side by side, as the letters of a line of type do.
+- A line is parts of one colour side by side, as the letters of a line of type.
 - A reach is how far a trap goes on one side of an edge, in pixels.
 """
 from __future__ import annotations
@@ -31,7 +31,7 @@ CLOSING = math.sqrt(5) / 2
 REACHES = tuple(sorted({math.sqrt(a * a + b * b) / 2 for a in range(1, 80, 2) for b in range(0, 80, 2)}))
 # What is added to a reach so that rounding to four digits of a point does not fall below it.
 ROUNDING = 0.005
-# Boxes in a row are joined where no more than so much of an inch lies between them.
+# Boxes in a row are joined if no more than so much of an inch lies between them.
 NEAR_INCHES = 0.03
 MOST_MEASURED = 400
 
@@ -83,7 +83,7 @@ def lines_of(parts: Sequence[Part]) -> list[list[tuple[Part, Box]]]:
 
 
 def are_beside(one: Box, other: Box) -> bool:
-    """Whether two boxes stand in one line."""
+    """Whether two boxes are in one line."""
     heights = sorted((one.lower - one.upper, other.lower - other.upper))
     across = max(one.left, other.left) - min(one.right, other.right)
     down = max(one.upper, other.upper) - min(one.lower, other.lower)
@@ -139,7 +139,7 @@ def boxes_by_width(lines: Sequence[Line], rule: Rule, resolution: int) -> dict[f
 
 
 def joined(boxes: Sequence[Box], gap: float) -> list[Box]:
-    """Boxes that stand in a row with at most `gap` pixels between them are one, and then those one above the
+    """Boxes in a row with at most `gap` pixels between them are one, and then those one above the
     other."""
     rows: list[Box] = []
     for box in sorted(boxes, key=lambda one: (one.upper // 8, one.left)):
@@ -172,8 +172,8 @@ def _around(one: Box, other: Box) -> Box:
 
 def own_share(planes: Sequence[Plane], inks: Sequence[Ink], rule: Rule, lines: Sequence[Line],
               reaches: Sequence[float]) -> float:
-    """The share of the strokes' pixels that no trap changes, with a reach in pixels for each line. Of many parts
-    some are measured, evenly spread; 1.0 if there is none."""
+    """The share of the strokes' pixels that no trap changes, with a reach in pixels for each line. Some
+    of many parts are measured, evenly spread; 1.0 if there is none."""
     counted = [(plane, ink) for plane, ink in zip(planes, inks) if ink.counts]
     steps = steps_of([ink for _, ink in counted], rule)
     items = [(part, reach) for line, reach in zip(lines, reaches) for part in line.parts]
@@ -193,7 +193,7 @@ def own_share(planes: Sequence[Plane], inks: Sequence[Ink], rule: Rule, lines: S
 
 
 def within_reach(right: Mask, lower: Mask, reach: float) -> Mask:
-    """The pixels whose middle is at most so far from the middle of an edge."""
+    """The pixels whose middle lies within a reach of the middle of an edge."""
     out = np.zeros_like(right)
     far = math.ceil(reach)
     for down in range(-far, far + 1):

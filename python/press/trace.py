@@ -192,12 +192,12 @@ class Trace:
         return self.clip
 
     def note_layers(self, box: Rect) -> None:
-        """What is painted belongs to the layers that it stands in."""
+        """What is painted belongs to all layers around it."""
         for name in self.layers:
             self.painted.setdefault(name, []).append(box)
 
     def note_resolution(self, values: dict[str, str], corners: Polygon) -> None:
-        """The image that has the fewest pixels an inch."""
+        """The image of the lowest resolution."""
         a, b, c, d, *_ = matrix_of(values)
         sides = (int(values["width"]), math.hypot(a, b)), (int(values["height"]), math.hypot(c, d))
         resolution = min(count * 72 / side for count, side in sides if side > 0) if a or b or c or d else 0.0

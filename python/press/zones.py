@@ -2,7 +2,7 @@
 """The zones of a job: the one place that orders, cuts and joins them, and counts the limits of a job.
 
 A later zone takes precedence over an earlier one. The order is: the page, cut to where traps may be; layers; the
-owner's zones; thin strokes, never wider than the zone below them and never where that is not enabled; pairs of inks;
+owner's zones; thin strokes, never wider than the zone below them and never if that is not enabled; pairs of inks;
 images, without what is drawn above them.
 """
 from __future__ import annotations
@@ -114,7 +114,7 @@ def base_rule(own: Sequence[Statement]) -> Parameters:
 
 
 def first_with_zones(own: Sequence[Statement]) -> int:
-    """Which of the owner's statements are the first that make a zone; their number where none does."""
+    """Which of the owner's statements are the first that make a zone, or their number."""
     return next((at for at, one in enumerate(own) if read(one.text).made), len(own))
 
 
