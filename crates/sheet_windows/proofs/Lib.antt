@@ -4,6 +4,7 @@ pub mod Zones
 pub mod Rules
 pub mod Windows
 pub mod Areas
+pub mod Covers
 pub mod Tiles
 pub mod Pages
 pub mod Whole

@@ -7,6 +7,7 @@ ghost use Rattle.page_model.specs.Limits.{most_samples, most_side};
 ghost use Rattle.page_model.specs.Page.{height, plates, width};
 ghost use Rattle.sheet_windows.specs.declared.cuts.Cut.{Cut};
 ghost use Rattle.sheet_windows.specs.Areas.{CountsBySamples};
+ghost use Rattle.sheet_windows.specs.Covers.{CoverLaw, IsCover};
 ghost use Rattle.sheet_windows.specs.declared.spans.Ruler.{Ruler};
 ghost use Rattle.sheet_windows.specs.Plans.{AreRulers, PlanLaw};
 ghost use Rattle.sheet_windows.specs.Sheets.{IsNearSheet, IsSheet, IsSheetParts, IsSmall};
@@ -55,6 +56,13 @@ pub fn counts_law()
 pub fn tiling_law()
     ensures { (sheet : PageParts) (strips : List Strip) → 1 ≤ width sheet → 1 ≤ height sheet
         → IsTiling sheet 0 strips → TilingLaw sheet strips }
+{}
+
+/// If areas lie on a sheet so that each of its samples lies in just one of them, in whatever order and form, each count
+/// of the report is the sum of the counts of the areas. The cores of windows are such areas: `tile_law`.
+pub fn cover_law()
+    ensures { (sheet : PageParts) (areas : List Cut) → 1 ≤ width sheet → 1 ≤ height sheet
+        → IsCover sheet areas → CoverLaw sheet areas }
 {}
 
 /// The window with all columns and rows of a sheet is the sheet.
