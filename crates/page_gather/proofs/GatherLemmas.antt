@@ -26,7 +26,7 @@ use Rattle.page_gather.specs.Inputs.{Sources, AreFound, AreRead, Inputs, Makes, 
 use Rattle.page_gather.specs.Steps.{ReadsJob, AnswersJob, ReadsPlates, PassesNoFault, HaveNoFault, plates_sought}
 use Rattle.page_gather.specs.Gathering.{Gathers, AnswersPage, ReadsPage}
 use Rattle.page_gather.specs.Looks.{Refuses, StopsAt}
-use Rattle.page_gather.proofs.LookLemmas.{held_before, in_hand_before, refused_prefix, refuses_before, some_in_hand, taken_before}
+use Rattle.page_gather.proofs.LookLemmas.{held_before, in_hand_before, last_asked, refused_prefix, refuses_before, some_in_hand, taken_before}
 use Rattle.page_gather.proofs.PlaneLemmas.{planes_back, plates_found}
 use Rattle.page_gather.proofs.PlateLemmas.{refusal_passes}
 
@@ -71,7 +71,7 @@ pub job_refused : (source : Sources) (a b : TrayState) (refusal : Refusal) → R
 job_refused source a b refusal reads = record {
   keeps = reads.keeps;
   asked = one_of a.asked b.asked source.job source.inputs reads.asked;
-  in_hand = inl reads.few;
+  in_hand = inl (reads.few, last_asked source.job a.asked b reads.asked);
   count = refused_count Job PageParts a b refusal reads.count;
   answer = answer_job source a b refusal reads.asked reads.answer;
 }

@@ -1,5 +1,6 @@
 -- Files that are looked into one after another.
-use Rattle.std.proofs.Common.{◌≡◌, ℕ, ◌<◌, ◌+◌, List, [], ◌∷◌, ◌++◌, length, take, map, get_or, All, Option, Ok, Err, IsTrue, inl, inr, sym, ap, ◌∙◌, subst, arith, length-append, below_more}
+use Rattle.std.proofs.Common.{◌≡◌, ℕ, ◌<◌, ◌+◌, List, [], ◌∷◌, ◌++◌, length, take, map, get_or, All, Option, Some, None, Ok, Err, IsTrue, inl, inr, sym, ap, ◌∙◌, subst, arith, length-append, below_more}
+use Rattle.std.specs.Prelude.{IfSome}
 use Rattle.std.proofs.lemmas.List.{get_or_append_left, get_or-map, length-map, take_more}
 use Rattle.std.proofs.lemmas.List.Elements.{All-append, All-cons}
 use Rattle.std.proofs.Math.Seq.{get_or-append_seam}
@@ -8,7 +9,7 @@ use Rattle.outside.specs.Tray.{TrayState, KeepsTray}
 use Rattle.outside.proofs.Names.{asks_then, asks_prefix}
 use Rattle.outside.proofs.Steps.{kept_tray, rose_before}
 use Rattle.page_gather.specs.Inputs.{Holds, AreFound, name_at}
-use Rattle.page_gather.specs.Looks.{AnswersLooks, FileInHand, HasTaken, HoldsOne, LooksAt, LooksThrough, Refuses, Sought, Takes}
+use Rattle.page_gather.specs.Looks.{AnswersLooks, FileInHand, HasTaken, HoldsOne, IsLast, LooksAt, LooksThrough, Refuses, Sought, Takes}
 
 -- The files of a tray are what they were before.
 pub held_before : (a b : TrayState) (name : List ℕ) (Fact : List ℕ → Type 0) → KeepsTray a b → (IsTrue b.tells → Holds b.file name Fact) → IsTrue a.tells → Holds a.file name Fact
@@ -24,7 +25,7 @@ taken_before Such a b c name keeps here begun tells =
 
 -- .. and of a file in hand
 pub in_hand_before : (Few : List ℕ → Type 0) (names : List (List ℕ)) (a b c : TrayState) → KeepsTray a b → FileInHand Few names b c → FileInHand Few names a c
-in_hand_before Few names a b c keeps (k, within, takes) = (
+in_hand_before Few names a b c keeps (k, within, takes, last) = (
   k,
   within,
   record {
@@ -32,7 +33,15 @@ in_hand_before Few names a b c keeps (k, within, takes) = (
     taken = λ begun tells. ap (λ (files : List ℕ → Option (List ℕ)). files (name_at names k)) (sym keeps.file) ∙ takes.taken begun (keeps.tells ∙ tells);
     few = takes.few;
   },
+  last,
 )
+
+-- the name that was handed out last
+pub last_asked : (name : List ℕ) (a : Option (List (List ℕ))) (b : TrayState) → Asks a b.asked (name ∷ []) → IsLast name b
+last_asked name a b asked = last_of name a b.asked asked where
+  last_of : (name : List ℕ) (a b : Option (List (List ℕ))) → Asks a b (name ∷ []) → IfSome b (λ all. (earlier : List (List ℕ)) × (all ≡ earlier ++ name ∷ []))
+  last_of name a None asked = tt
+  last_of name a (Some all) asked = (asked.0, asked.2)
 
 -- Where there are files, one of them is in hand.
 pub some_in_hand : (Few : List ℕ → Type 0) (names : List (List ℕ)) (count : ℕ) (a b : TrayState) → 0 < count → HoldsOne Few names count a b → FileInHand Few names a b
@@ -89,13 +98,13 @@ module _ {V E : Type 0} (sought : Sought V E) where
     asked_more : Asks b.asked c.asked (name ∷ []) → Asks a.asked c.asked (take (k + 1) names)
     asked_more next = subst (λ (l : List (List ℕ)). Asks a.asked c.asked l) (ap (λ (n : List ℕ). take k names ++ n ∷ []) named ∙ sym (take_more names k [] within)) (asks_then a.asked b.asked c.asked (take k names) (name ∷ []) so_far.asked next)
 
-    in_hand_now : (n : ℕ) → Takes sought.few name b c → HoldsOne sought.few names n a c
-    in_hand_now n takes = inr (in_hand_before sought.few names a b c so_far.keeps (k, within, subst (λ (n : List ℕ). Takes sought.few n b c) named takes))
+    in_hand_now : (n : ℕ) → Asks b.asked c.asked (name ∷ []) → Takes sought.few name b c → HoldsOne sought.few names n a c
+    in_hand_now n asked takes = inr (in_hand_before sought.few names a b c so_far.keeps (k, within, subst (λ (n : List ℕ). Takes sought.few n b c) named takes, subst (λ (n : List ℕ). IsLast n c) named (last_asked name b.asked c asked)))
 
     pub more_so_far : (value : V) → LooksAt sought k name b c (Ok value) → SoFar names (k + 1) a c (values ++ value ∷ [])
     more_so_far value one = record {
       keeps = kept_tray a b c so_far.keeps one.keeps;
-      in_hand = in_hand_now (k + 1) one.takes;
+      in_hand = in_hand_now (k + 1) one.asked one.takes;
       asked = asked_more one.asked;
       count = length-append values (value ∷ []) ∙ ap (λ (n : ℕ). n + 1) so_far.count;
       fine = All-append sought.fine values (value ∷ []) so_far.fine (All-cons sought.fine value [] one.answer.0 (λ j d none. absurd (omega arith)));
@@ -107,7 +116,7 @@ module _ {V E : Type 0} (sought : Sought V E) where
     stopped : (refusal : E) → KeepsTray b c → Asks b.asked c.asked (name ∷ []) → Takes sought.few name b c → Refuses sought k name b c refusal → LooksThrough sought names a c (Err refusal)
     stopped refusal keeps asked takes refuses = record {
       keeps = kept_tray a b c so_far.keeps keeps;
-      in_hand = in_hand_now (length names) takes;
+      in_hand = in_hand_now (length names) asked takes;
       answer = (k, record { known = within; asked = asked_more asked; found = values; before_it = so_far.found }, subst (λ (n : List ℕ). Refuses sought k n a c refusal) named (refuses_before k name a b c refusal so_far.keeps so_far.calm refuses));
     }
 

@@ -15,6 +15,7 @@ use Rattle.refusals.specs.declared.refusal.Refusal.TheVariants.{NoDetails, Plate
 use Rattle.refusals.specs.declared.refusal.Refusal.TheVariants.{Write, Memory}
 use Rattle.page_gather.specs.Inputs.{Sources, Holds, AreRead, PlateFails, Makes, one_page}
 use Rattle.page_gather.specs.Inputs.{read_files, name_at}
+use Rattle.page_gather.specs.Looks.{IsLast}
 use Rattle.page_gather.specs.Steps.{IsFaultless, PassesNoFault, PlateInHand, ReadsJob, TakesJob}
 
 -- The read of a plate failed: the job and the plates before it are read, and of its own bytes
@@ -67,10 +68,10 @@ AnswersPage source before after (Err Memory) = Unit {0}
 AnswersPage source before after (Err Usage) = ⊥
 AnswersPage source before after (Err (Write file)) = ⊥
 
--- No more was taken of the file that is in hand than is owed, be it the job or a plate.
+-- No more was taken of the file that was opened last than is owed, be it the job or a plate.
 abbrev pub InHand : Sources → TrayState → TrayState → Type 0
-InHand source before after =
-    TakesJob source.job before after ⊎ PlateInHand source.inputs before after
+InHand source before after = (TakesJob source.job before after × IsLast source.job after)
+    ⊎ PlateInHand source.inputs before after
 
 -- The job and the plates are read, and the page is made of them.
 pub record Gathers (source : Sources) (before after : TrayState)

@@ -1,6 +1,6 @@
 -- What it means to look into files one after another, up to the first that is refused.
 use Rattle.std.specs.Prelude.{◌≡◌, ◌⊎◌, ℕ, ◌<◌, ◌+◌, Bool, false, IsTrue, List, [], ◌∷◌, ◌++◌}
-use Rattle.std.specs.Prelude.{length, take, All, Some, Result, Ok, Err}
+use Rattle.std.specs.Prelude.{length, take, All, Some, IfSome, Result, Ok, Err}
 use Rattle.outside.specs.Causes.{Rose, Asks}
 use Rattle.outside.specs.Tray.{TrayState, KeepsTray}
 use Rattle.page_gather.specs.Inputs.{Holds, AreFound, name_at}
@@ -39,10 +39,15 @@ abbrev pub HasTaken : (List ℕ → Type 0) → List ℕ → TrayState → TrayS
 HasTaken Such name before after = IsTrue after.begun → IsTrue before.tells
     → (bytes : List ℕ) × (before.file name ≡ Some (bytes ++ after.left)) × Such bytes
 
--- One of the files is in hand, and no more is taken of it than is owed.
+-- The file of that name was opened last, where the names are known.
+abbrev pub IsLast : List ℕ → TrayState → Type 0
+IsLast name after =
+    IfSome after.asked (λ all. (earlier : List (List ℕ)) × (all ≡ earlier ++ name ∷ []))
+
+-- One of the files is in hand: it was opened last, and no more is taken of it than is owed.
 abbrev pub FileInHand : (List ℕ → Type 0) → List (List ℕ) → TrayState → TrayState → Type 0
-FileInHand Few names before after =
-    (k : ℕ) × (k < length names) × Takes Few (name_at names k) before after
+FileInHand Few names before after = (k : ℕ) × (k < length names)
+    × Takes Few (name_at names k) before after × IsLast (name_at names k) after
 
 -- The same after `count` files; before the first one nothing is begun.
 abbrev pub HoldsOne : (List ℕ → Type 0) → List (List ℕ) → ℕ → TrayState → TrayState → Type 0
