@@ -26,8 +26,8 @@ use Rattle.plate_rows.specs.declared.stop.RereadError.{RereadError}
 use Rattle.plate_rows.specs.declared.stop.RereadError.TheVariants.{Changed, Unread}
 use Rattle.plate_rows.specs.Judging.{Refuses}
 use Rattle.plate_rows.specs.Laws.{AreReadTo, EndsStop, NoChange, ReadingBegins, ReadingEnds, ReadingGrows, ReadingStops, RowsStop, header_of}
-use Rattle.plate_rows.specs.Rereading.{BeginsAt, BreaksOn, EndsAt, EndsPlates, FailsOn, HasChanged, HaveRead, Interrupts, ReadsPast, StopsReading, new_rows, wanted}
-use Rattle.plate_rows.specs.Trays.{IsCalm, TakesFile, TrayStops, header_at, header_in, name_at, open_at, tray_at}
+use Rattle.plate_rows.specs.Rereading.{BeginsAt, BreaksOn, EndsAt, EndsPlates, FailsOn, HasChanged, HaveRead, Interrupts, ReadsPast, StopsBegun, new_rows, wanted}
+use Rattle.plate_rows.specs.Trays.{IsCalm, TakesFile, TakesFiles, TrayStops, header_at, header_in, name_at, open_at, tray_at}
 
 pub reading_begins : ReadingBegins
 reading_begins names headers plates before after begins = record {
@@ -137,6 +137,7 @@ pub stops_there : (names : List (List ℕ)) (count k : ℕ) (a b : List TrayStat
 stops_there names count k a b known earlier here others = record {
   known = known;
   begun = k + 1;
+  among = omega arith;
   most = omega arith;
   takes = record { each = taken_to names k a b earlier here; others = λ j more. others j (omega arith) };
   calm = λ j other. calm_at j other;
@@ -150,6 +151,7 @@ stops_among : (names : List (List ℕ)) (count k : ℕ) (a b : List TrayState) �
 stops_among names count k a b known earlier here later others = record {
   known = known;
   begun = count;
+  among = known;
   most = omega arith;
   takes = record { each = taken_all names k count a b earlier here later; others = others };
   calm = λ j other. calm_at j other;
@@ -202,19 +204,31 @@ module _ (names : List (List ℕ)) (plates : List OpenPlate) (samples : ℕ → 
         let room = to.room k known in
         rows.2 Sheet (name_at names k) (tray_at start k) (samples k) (have.each k known) (to.count k known) (omega (arith, rows.1, room))
 
+    rows_all : (k : ℕ) (refusal : PlateRefusal) → k < length plates → ((j : ℕ) → j < k → ReadsPast plates done count j (tray_at before j) (tray_at after j)) → Refuses names refusal k (tray_at start k) (tray_at after k) → ((j : ℕ) → k < j → tray_at after j ≡ tray_at before j) → TakesFiles names (length plates) start after
+    rows_all k refusal known reads refused others = record {
+      each = taken_all names k (length plates) start after (read_before k known reads) (taken_whole (name_at names k) (tray_at start k) (tray_at after k) (Err refusal) refused) (still k others);
+      others = beyond k known others;
+    }
+
     rows_interrupt : (k : ℕ) (refusal : PlateRefusal) → k < length plates → ((j : ℕ) → j < k → ReadsPast plates done count j (tray_at before j) (tray_at after j)) → Refuses names refusal k (tray_at start k) (tray_at after k) → ((j : ℕ) → k < j → tray_at after j ≡ tray_at before j) → Interrupts names (length plates) k start after
     rows_interrupt k refusal known reads refused others =
         stops_among names (length plates) k start after known (read_before k known reads) (taken_whole (name_at names k) (tray_at start k) (tray_at after k) (Err refusal) refused) (still k others) (beyond k known others)
 
-    pub rows_changed : (k : ℕ) → TrayStops (length plates) k (ReadsPast plates done count) (FailsOn plates done count) before after → StopsReading names (header_of plates) (length plates) start after (Changed k)
+    pub rows_changed : (k : ℕ) → TrayStops (length plates) k (ReadsPast plates done count) (FailsOn plates done count) before after → StopsBegun names (header_of plates) (length plates) start after (Changed k)
     rows_changed k stops =
         let refused = refused_at k stops.known (Fault stops.here.0) stops.here.1 in
-        (rows_interrupt k (Fault stops.here.0) stops.known stops.each refused stops.others, inr (stops.here.0, refused))
+        record {
+          stops = (rows_interrupt k (Fault stops.here.0) stops.known stops.each refused stops.others, inr (stops.here.0, refused));
+          all = rows_all k (Fault stops.here.0) stops.known stops.each refused stops.others;
+        }
 
-    pub rows_unread : (k : ℕ) → TrayStops (length plates) k (ReadsPast plates done count) (BreaksOn plates done count) before after → StopsReading names (header_of plates) (length plates) start after (Unread k)
+    pub rows_unread : (k : ℕ) → TrayStops (length plates) k (ReadsPast plates done count) (BreaksOn plates done count) before after → StopsBegun names (header_of plates) (length plates) start after (Unread k)
     rows_unread k stops =
         let refused = refused_at k stops.known ReadFault stops.here in
-        (rows_interrupt k ReadFault stops.known stops.each refused stops.others, refused)
+        record {
+          stops = (rows_interrupt k ReadFault stops.known stops.each refused stops.others, refused);
+          all = rows_all k ReadFault stops.known stops.each refused stops.others;
+        }
 
   module _ (all : (k : ℕ) → k < length plates → length (samples k) ≡ samples_of (open_at plates k).header) where
     ended_before : (k : ℕ) → k < length plates → ((j : ℕ) → j < k → EndsAt plates j (tray_at before j) (tray_at after j)) → (j : ℕ) → j < k → Went (name_at names j) (tray_at start j) (tray_at after j)
@@ -226,17 +240,29 @@ module _ (names : List (List ℕ)) (plates : List OpenPlate) (samples : ℕ → 
     end_refused : (k : ℕ) → k < length plates → (refusal : PlateRefusal) → EndsPlate (open_at plates k) (tray_at before k) (tray_at after k) (Err refusal) → Refuses names refusal k (tray_at start k) (tray_at after k)
     end_refused k known refusal ends = ends Sheet (name_at names k) (tray_at start k) (samples k) (have.each k known) (all k known)
 
+    ends_all : (k : ℕ) (refusal : PlateRefusal) → k < length plates → ((j : ℕ) → j < k → EndsAt plates j (tray_at before j) (tray_at after j)) → Refuses names refusal k (tray_at start k) (tray_at after k) → ((j : ℕ) → k < j → tray_at after j ≡ tray_at before j) → TakesFiles names (length plates) start after
+    ends_all k refusal known ends refused others = record {
+      each = taken_all names k (length plates) start after (ended_before k known ends) (taken_whole (name_at names k) (tray_at start k) (tray_at after k) (Err refusal) refused) (still k others);
+      others = beyond k known others;
+    }
+
     ends_interrupt : (k : ℕ) (refusal : PlateRefusal) → k < length plates → ((j : ℕ) → j < k → EndsAt plates j (tray_at before j) (tray_at after j)) → Refuses names refusal k (tray_at start k) (tray_at after k) → ((j : ℕ) → k < j → tray_at after j ≡ tray_at before j) → Interrupts names (length plates) k start after
     ends_interrupt k refusal known ends refused others =
         stops_among names (length plates) k start after known (ended_before k known ends) (taken_whole (name_at names k) (tray_at start k) (tray_at after k) (Err refusal) refused) (still k others) (beyond k known others)
 
-    pub ends_stopped : (stop : RereadError) → EndsPlates plates before after (Err stop) → StopsReading names (header_of plates) (length plates) start after stop
+    pub ends_stopped : (stop : RereadError) → EndsPlates plates before after (Err stop) → StopsBegun names (header_of plates) (length plates) start after stop
     ends_stopped (Changed k) stops =
         let refused = end_refused k stops.known (Fault stops.here.0) stops.here.1 in
-        (ends_interrupt k (Fault stops.here.0) stops.known stops.each refused stops.others, inr (stops.here.0, refused))
+        record {
+          stops = (ends_interrupt k (Fault stops.here.0) stops.known stops.each refused stops.others, inr (stops.here.0, refused));
+          all = ends_all k (Fault stops.here.0) stops.known stops.each refused stops.others;
+        }
     ends_stopped (Unread k) stops =
         let refused = end_refused k stops.known ReadFault stops.here in
-        (ends_interrupt k ReadFault stops.known stops.each refused stops.others, refused)
+        record {
+          stops = (ends_interrupt k ReadFault stops.known stops.each refused stops.others, refused);
+          all = ends_all k ReadFault stops.known stops.each refused stops.others;
+        }
 
 pub rows_stop : RowsStop
 rows_stop names plates samples next old new start before after (Changed k) have to stops = rows_changed names plates samples start before after have next.done (wanted next.kept old) to k stops

@@ -15,7 +15,7 @@ use Rattle.refusals.specs.declared.refusal.Refusal.TheVariants.{Write}
 use Rattle.plate_rows.specs.Images.{AreWritten, BreaksRows, EndsImages, HaveWritten}
 use Rattle.plate_rows.specs.Images.{HoldsBytes, LeavesFiles, WritesNext}
 use Rattle.plate_rows.specs.Rereading.{BeginsPlates, EndsPlates, HasChanged, HaveRead, ReadsNext}
-use Rattle.plate_rows.specs.Rereading.{StopsReading, new_rows, wanted}
+use Rattle.plate_rows.specs.Rereading.{StopsBegun, StopsReading, new_rows, wanted}
 use Rattle.plate_rows.specs.Trays.{EachTray, header_at, header_in, name_at, open_at}
 use Rattle.plate_rows.specs.declared.rereading.NextRows.{NextRows}
 use Rattle.plate_rows.specs.declared.stop.RereadError.{RereadError}
@@ -77,7 +77,7 @@ RowsStop = (names : List (List ℕ)) (plates : List OpenPlate) (samples : ℕ �
     (stop : RereadError) → HaveRead names plates (length plates) samples start before
     → AreReadTo plates samples next.done (wanted next.kept old)
     → ReadsNext plates next old new before after (Err stop)
-    → StopsReading names (header_of plates) (length plates) start after stop
+    → StopsBegun names (header_of plates) (length plates) start after stop
 
 -- .. and where the plates are ended
 abbrev pub EndsStop : Type 0
@@ -86,7 +86,7 @@ EndsStop = (names : List (List ℕ)) (plates : List OpenPlate) (samples : ℕ �
     → HaveRead names plates (length plates) samples start before
     → ((k : ℕ) → k < length plates → length (samples k) ≡ samples_of (open_at plates k).header)
     → EndsPlates plates before after (Err stop)
-    → StopsReading names (header_of plates) (length plates) start after stop
+    → StopsBegun names (header_of plates) (length plates) start after stop
 
 -- What was written so far grows by the rows that are written.
 abbrev pub WritingGrows : Type 0

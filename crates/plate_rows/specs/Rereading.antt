@@ -194,12 +194,13 @@ EndsPlates plates before after (Err (Changed k)) = TrayStops (length plates) k (
 EndsPlates plates before after (Err (Unread k)) = TrayStops (length plates) k (EndsAt plates)
     (λ j a b. EndsPlate (open_at plates j) a b (Err ReadFault)) before after
 
--- The reading of `count` plates stops at plate k: some files were begun, that one among them, and
--- no fault of another tray was passed over.
+-- The reading of `count` plates stops at plate k: the first files were opened, that one among them,
+-- and no fault of another tray was passed over.
 pub record Interrupts (names : List (List ℕ)) (count k : ℕ)
     (before after : List TrayState) : Type 0 where
   pub known : k < count
   pub begun : ℕ
+  pub among : k < begun
   pub most : begun ≤ count
   pub takes : TakesFiles names begun before after
   pub calm : (j : ℕ) → j < k ⊎ k < j → IsCalm before after j
@@ -211,3 +212,9 @@ StopsReading names header count before after (Changed k) = Interrupts names coun
     × ChangesAt names header k (tray_at before k) (tray_at after k)
 StopsReading names header count before after (Unread k) = Interrupts names count k before after
     × Refuses names ReadFault k (tray_at before k) (tray_at after k)
+
+-- .. where all plates were opened again before it stopped
+pub record StopsBegun (names : List (List ℕ)) (header : ℕ → Header) (count : ℕ)
+    (before after : List TrayState) (stop : RereadError) : Type 0 where
+  pub stops : StopsReading names header count before after stop
+  pub all : TakesFiles names count before after

@@ -10,7 +10,9 @@ use Rattle.outside.proofs.Names.{asks_all, asks_prefix, asks_none_of, asks_then}
 use Rattle.outside.proofs.Steps.{kept_tray, rose_before}
 use Rattle.page_gather.specs.Assembly.{assembled, without_details}
 use Rattle.page_gather.specs.Inputs.{Sources, name_at}
+use Rattle.page_gather.specs.Looks.{IsLast}
 use Rattle.page_gather.specs.Steps.{AnswersJob, PassesNoFault, ReadsJob, TakesJob}
+use Rattle.page_gather.proofs.LookLemmas.{last_asked}
 use Rattle.page_model.specs.declared.parts.PageParts.{PageParts}
 use Rattle.page_model.specs.Page.{plates}
 use Rattle.pgm_plates.specs.declared.plate.Plate.{Plate as PlateRead}
@@ -84,9 +86,9 @@ module _ (source : Sources) (count : ℕ) (a b c : List TrayState) (first : Keep
 
   hand_of : (k : ℕ) → After k → InHand source k (tray_at a k) (tray_at c k)
   unfolding After
-  hand_of zero (inr takes) = inr (inr (takes_before (name_at source.inputs 0) (tray_at a 0) (tray_at b 0) (tray_at c 0) first takes.few))
-  hand_of zero (inl same) = inr (inl (subst (λ (t : TrayState). TakesJob source.job (tray_at a 0) t) (sym same) few))
-  hand_of (suc k) (inr takes) = inr (takes_before (name_at source.inputs (suc k)) (tray_at a (suc k)) (tray_at b (suc k)) (tray_at c (suc k)) (job_keeps (suc k)) takes.few)
+  hand_of zero (inr takes) = inr (inr (takes_before (name_at source.inputs 0) (tray_at a 0) (tray_at b 0) (tray_at c 0) first takes.few, last_asked (name_at source.inputs 0) (tray_at b 0).asked (tray_at c 0) takes.asked))
+  hand_of zero (inl same) = inr (inl (subst (λ (t : TrayState). TakesJob source.job (tray_at a 0) t × IsLast source.job t) (sym same) (few, last_asked source.job (tray_at a 0).asked (tray_at b 0) asked)))
+  hand_of (suc k) (inr takes) = inr (takes_before (name_at source.inputs (suc k)) (tray_at a (suc k)) (tray_at b (suc k)) (tray_at c (suc k)) (job_keeps (suc k)) takes.few, last_asked (name_at source.inputs (suc k)) (tray_at b (suc k)).asked (tray_at c (suc k)) takes.asked)
   hand_of (suc k) (inl same) = inl (same ∙ others (suc k) (omega arith))
 
   past : (k : ℕ) → length source.inputs ≤ k → tray_at c k ≡ tray_at a k
@@ -153,13 +155,13 @@ module _ (source : Sources) (budget : Budget) (a b : List TrayState) (some : 1 �
   answer_job (JobFails fault) reads answer count = AnswersJudging.refused (Common (JobFails fault)) refl (record {
     of_input = tt;
     verdict = λ tells. answer (tells 0 (omega arith));
-    begun = reads.asked;
-    count = count;
+    begun = record { first = reads.asked; others = others };
+    count = job_calm a b b others count;
   })
   answer_job (Read None) reads answer count = AnswersJudging.unread None refl (record {
     rose = answer;
-    begun = reads.asked;
-    count = tt;
+    begun = record { first = reads.asked; others = others };
+    count = λ k other. ap (λ (t : TrayState). t.faults) (others k other);
     breaks = tt;
   })
   answer_job Memory reads answer count = AnswersJudging.no_memory refl (job_calm a b b others count)

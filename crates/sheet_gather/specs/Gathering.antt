@@ -6,6 +6,7 @@ use Rattle.job_reader.specs.Jobs.{job_of}
 use Rattle.outside.specs.Causes.{Rose, Asks, AsksPrefix}
 use Rattle.outside.specs.Tray.{TrayState, KeepsTray}
 use Rattle.page_gather.specs.Inputs.{Sources, name_at}
+use Rattle.page_gather.specs.Looks.{IsLast}
 use Rattle.page_gather.specs.Steps.{TakesJob, TakesPlate}
 use Rattle.page_model.specs.declared.parts.PageParts.{PageParts}
 use Rattle.page_model.specs.Page.{plates}
@@ -24,13 +25,18 @@ use Rattle.sheet_gather.specs.Verdicts.{IsSheetVerdict, Refused}
 use Rattle.sheet_gather.specs.declared.stop.TrapsheetError.{TrapsheetError}
 use Rattle.sheet_gather.specs.declared.stop.TrapsheetError.TheVariants.{Changed, Common, OfSheet}
 
--- Tray k is as it was, or no more was taken of the file that it has in hand than is owed, be it
--- the job or its plate.
+-- The plate of that name was opened last, and no more was taken of it than is owed.
+abbrev pub HasPlate : List ℕ → TrayState → TrayState → Type 0
+HasPlate name before after = TakesPlate name before after × IsLast name after
+
+-- Tray k is as it was, or no more was taken of the file that it opened last than is owed, be it the
+-- job or its plate.
 abbrev pub InHand : Sources → ℕ → TrayState → TrayState → Type 0
-InHand source zero before after = (after ≡ before) ⊎ TakesJob source.job before after
-    ⊎ TakesPlate (name_at source.inputs zero) before after
+InHand source zero before after =
+    (after ≡ before) ⊎ (TakesJob source.job before after × IsLast source.job after)
+    ⊎ HasPlate (name_at source.inputs zero) before after
 InHand source (suc k) before after =
-    (after ≡ before) ⊎ TakesPlate (name_at source.inputs (suc k)) before after
+    (after ≡ before) ⊎ HasPlate (name_at source.inputs (suc k)) before after
 
 -- Each tray is asked for its own files alone, and those of no plate are as they were.
 pub record TakesTrays (source : Sources) (before after : List TrayState) : Type 0 where
@@ -50,13 +56,16 @@ abbrev pub AsksTwice : Sources → List TrayState → List TrayState → ℕ →
 AsksTwice source before after k =
     Asks (tray_at before k).asked (tray_at after k).asked (files_twice source k)
 
--- the files that were begun where that stop comes; of the plates after the one that is refused
--- nothing is said
+-- The first tray was asked for the job alone, and the others for nothing.
+pub record AsksJob (source : Sources) (before after : List TrayState) : Type 0 where
+  pub first : Asks (tray_at before 0).asked (tray_at after 0).asked (source.job ∷ [])
+  pub others : (k : ℕ) → k ≢ 0 → tray_at after k ≡ tray_at before k
+
+-- The files that were opened where that stop comes: the job alone if it is refused or can't be
+-- read. Of the plates after a refused plate nothing is said.
 abbrev pub AsksTo : Sources → TrapsheetError → List TrayState → List TrayState → Type 0
-AsksTo source (Common (JobFails fault)) before after =
-    Asks (tray_at before 0).asked (tray_at after 0).asked (source.job ∷ [])
-AsksTo source (Common (Read None)) before after =
-    Asks (tray_at before 0).asked (tray_at after 0).asked (source.job ∷ [])
+AsksTo source (Common (JobFails fault)) before after = AsksJob source before after
+AsksTo source (Common (Read None)) before after = AsksJob source before after
 AsksTo source (Common (Plate plate fault)) before after =
     (k : ℕ) → k ≤ plate → AsksAll source before after k
 AsksTo source (Common (Read (Some plate))) before after =
@@ -67,10 +76,10 @@ AsksTo source other before after =
 -- No fault of a tray is passed over where that stop comes, but of the plates after the one that
 -- is refused. A sample above the maxval may be among the bytes that came before a failed read.
 abbrev pub CalmTo : TrapsheetError → List TrayState → List TrayState → Type 0
-CalmTo (Common (JobFails fault)) before after = IsCalm before after 0
+CalmTo (Common (JobFails fault)) before after = (k : ℕ) → IsCalm before after k
 CalmTo (Common (Plate plate fault)) before after = ((k : ℕ) → k < plate → IsCalm before after k)
     × KeepsCount {T = PlateRead} (tray_at before plate) (tray_at after plate) (Err (Fault fault))
-CalmTo (Common (Read None)) before after = Unit {0}
+CalmTo (Common (Read None)) before after = (k : ℕ) → k ≢ 0 → IsCalm before after k
 CalmTo (Common (Read (Some plate))) before after =
     (k : ℕ) → k < plate → IsCalm before after k
 CalmTo other before after = (k : ℕ) → IsCalm before after k

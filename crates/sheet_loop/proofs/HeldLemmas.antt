@@ -60,7 +60,7 @@ module _ (inputs : List (List ℕ)) (bare : PageParts) (begun : List OpenPlate) 
       let next : ◌≡◌ {A = NextRows} (record { done = 0; kept = 0 }) (rows_then bare not_begun (all_rows bare)) = λ i. record { done = zero i; kept = zero i } in
       let reads_then = subst (λ (n : NextRows). ReadsStrip begun n (0 * width bare) old new before after (Err stop)) next (subst (λ (n : ℕ). ReadsStrip begun (record { done = 0; kept = 0 }) n old new before after (Err stop)) zero reads) in
       stops_same inputs bare begun headers start stop after
-      (stopped bare begun (height bare) not_begun (all_rows bare) inputs start before old headers holds_none refl (omega arith) (omega arith) (omega arith) room.planes new after stop reads_then)
+      (stopped bare begun (height bare) not_begun (all_rows bare) inputs start before old headers holds_none refl (omega arith) (omega arith) (omega arith) room.planes new after stop reads_then).stops
 
   module _ (reads : ReadsStrip begun (record { done = 0; kept = 0 }) 0 old new before after (Ok tt)) where
     first : HoldsRead inputs bare begun 0 (height bare) start after new.planes
@@ -120,4 +120,4 @@ module _ (inputs : List (List ℕ)) (bare : PageParts) (begun : List OpenPlate) 
           };
           same = is_sheet;
         }
-    held_end after' (Err stop) ends = stops_same inputs bare begun headers start stop after' (ends_stop inputs begun first.samples start after after' stop first.read all_read ends)
+    held_end after' (Err stop) ends = stops_same inputs bare begun headers start stop after' (ends_stop inputs begun first.samples start after after' stop first.read all_read ends).stops

@@ -25,7 +25,7 @@ use Rattle.pgm_plates.specs.Rows.{HasRead, HasWritten, plate_with, spelled_so_fa
 use Rattle.plate_rows.specs.Images.{BeginsImages, BreaksRows, CreatesAt, EndsImages, HaveWritten}
 use Rattle.plate_rows.specs.Laws.{header_of}
 use Rattle.plate_rows.specs.Racks.{EachRack, rack_at}
-use Rattle.plate_rows.specs.Rereading.{BeginsPlates, EndsPlates, HasChanged, HaveRead, Interrupts, StopsReading}
+use Rattle.plate_rows.specs.Rereading.{BeginsPlates, EndsPlates, HasChanged, HaveRead, Interrupts, StopsBegun, StopsReading}
 use Rattle.plate_rows.specs.Trays.{EachTray, IsCalm, TakesFiles, header_at, name_at, no_header, no_open, open_at, tray_at}
 use Rattle.plate_rows.specs.declared.stop.RereadError.{RereadError}
 use Rattle.plate_rows.specs.declared.stop.RereadError.TheVariants.{Changed, Unread as PlateUnread}
@@ -110,11 +110,16 @@ module _ (course : Course) (bare : PageParts) (plan : StripPlan) (begun : List O
   low_enough : (sheet : PageParts) (samples : ℕ → List ℕ) (rows : ℕ) → BeginsWith bare (tints_for bare samples) sheet → rows ≤ height bare → rows ≤ height sheet
   low_enough sheet samples rows is few = (let e = height_same bare sheet (tints_for bare samples) is in omega (arith, e, few))
 
+  -- as many files as plates were opened again
+  takes_all : (trays : List TrayState) → TakesFiles course.inputs (length begun) course.trays trays → TakesFiles course.inputs (plates bare) course.trays trays
+  takes_all trays all = subst (λ (n : ℕ). TakesFiles course.inputs n course.trays trays) headers.count all
+
   -- the strips stop
   strips_unread : (trays : List TrayState) (racks : List RackState) (stop : RereadError) → StopsUnread course bare plan begun trays racks stop → IsUnread course bare plan.header trays racks stop
   strips_unread trays racks stop s = record {
     was = record { begun = begun; headers = headers; samples = s.samples; between = s.between; read = s.read };
-    stops = stops_same course.inputs bare begun headers course.trays stop trays s.stops;
+    stops = stops_same course.inputs bare begun headers course.trays stop trays s.stops.stops;
+    takes = takes_all trays s.stops.all;
     written = λ sheet is. parts_stand sheet s.rows racks (low_enough sheet s.samples s.rows is s.few) (s.written sheet is);
   }
 
@@ -214,10 +219,14 @@ module _ (course : Course) (bare : PageParts) (plan : StripPlan) (begun : List O
           (subst (λ (n : ℕ). AddsArea sheet 0 0 (width sheet) n none counts) (sym (height_same bare sheet tints is)) (streamed.counted sheet is)));
     }
 
+    ended_all : (stop : RereadError) → EndsPlates begun trays trays' (Err stop) → StopsBegun course.inputs (header_of begun) (length begun) course.trays trays' stop
+    ended_all stop ends = ends_stop course.inputs begun streamed.samples course.trays trays trays' stop streamed.read streamed.all ends
+
     end_unread : (stop : RereadError) → EndsPlates begun trays trays' (Err stop) → IsUnread course bare plan.header trays' racks stop
     end_unread stop ends = record {
       was = was;
-      stops = stops_same course.inputs bare begun headers course.trays stop trays' (ends_stop course.inputs begun streamed.samples course.trays trays trays' stop streamed.read streamed.all ends);
+      stops = stops_same course.inputs bare begun headers course.trays stop trays' (ended_all stop ends).stops;
+      takes = takes_all trays' (ended_all stop ends).all;
       written = λ sheet is. parts_stand sheet (height bare) racks (low_enough sheet streamed.samples (height bare) is (omega arith)) (streamed.written sheet is);
     }
 

@@ -10,7 +10,7 @@ use Rattle.pgm_plates.specs.declared.rows.OpenPlate.{OpenPlate}
 use Rattle.pgm_plates.specs.Rows.{samples_of}
 use Rattle.plate_rows.specs.Images.{BreaksRows, HaveWritten}
 use Rattle.plate_rows.specs.Laws.{header_of}
-use Rattle.plate_rows.specs.Rereading.{HaveRead, StopsReading}
+use Rattle.plate_rows.specs.Rereading.{HaveRead, StopsBegun}
 use Rattle.plate_rows.specs.Trays.{open_at}
 use Rattle.plate_rows.specs.declared.stop.RereadError.{RereadError}
 use Rattle.refusals.specs.declared.refusal.Refusal.{Refusal}
@@ -92,7 +92,7 @@ pub record IsHeld (bare : PageParts) (plan : StripPlan) (begun : List OpenPlate)
 pub record StopsUnread (course : Course) (bare : PageParts) (plan : StripPlan)
     (begun : List OpenPlate) (trays : List TrayState) (racks : List RackState)
     (stop : RereadError) : Type 0 where
-  pub stops : StopsReading course.inputs (header_of begun) (length begun) course.trays trays stop
+  pub stops : StopsBegun course.inputs (header_of begun) (length begun) course.trays trays stop
   pub samples : ℕ → List ℕ
   pub between : List TrayState
   pub read : HaveRead course.inputs begun (length begun) samples course.trays between

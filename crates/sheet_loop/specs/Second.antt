@@ -84,12 +84,14 @@ pub record IsDone (course : Course) (bare : PageParts) (header : Header) (counts
       (new_tints sheet) course.racks racks)
   pub counted : OfEach bare was.samples (λ sheet. IsCounted sheet counts)
 
--- The reading stopped once files were created: of each plate a prefix stands at most.
+-- The reading stopped once files were created, which is after each plate was opened again: of each
+-- plate a prefix stands at most.
 pub record IsUnread (course : Course) (bare : PageParts) (header : Header)
     (trays : List TrayState) (racks : List RackState) (stop : RereadError) : Type 0 where
   pub was : WasRead course bare
   pub stops : StopsReading course.inputs (λ k. sheet_header bare) (plates bare) course.trays trays
       stop
+  pub takes : TakesFiles course.inputs (plates bare) course.trays trays
   pub written : OfEach bare was.samples (PartsStand course bare header racks)
 
 -- The writing of plate k failed; no fault of a tray was passed over.

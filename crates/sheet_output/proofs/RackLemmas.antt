@@ -1,5 +1,5 @@
 -- Planes that are written one after another, each by its own rack.
-use Rattle.std.proofs.Common.{◌≡◌, ◌≢◌, ◌⊎◌, ℕ, zero, suc, ◌+◌, ◌<◌, ◌≤◌, List, [], ◌∷◌, length, map, get_or, Some, None, Result, Ok, Err, IsTrue, inl, inr, refl, sym, ap, ◌∙◌, subst, arith}
+use Rattle.std.proofs.Common.{◌≡◌, ◌≢◌, ◌⊎◌, ℕ, zero, suc, ◌+◌, ◌<◌, ◌≤◌, List, [], ◌∷◌, length, map, get_or, Option, Some, None, Result, Ok, Err, IsTrue, inl, inr, refl, sym, ap, ◌∙◌, subst, arith}
 use Rattle.std.specs.Prelude.{slice_set}
 use Rattle.std.proofs.lemmas.Bool.{cases_eq, cases_lt}
 use Rattle.std.proofs.lemmas.List.{get_or-map, get_or_default, length-set, map-set, get_or-set_same, get_or-set_other}
@@ -131,7 +131,7 @@ module _ (outputs : List (List ℕ)) (report : List ℕ) (planes : List Plane) (
     ]
 
     pub plate_broke : BreaksSheet (targets outputs report) planes text (Some count) a c
-    plate_broke = record { known = known; breaks = breaks_at count now_from; once = now_from.once; others = other_racks }
+    plate_broke = record { known = known; breaks = breaks_at count now_from; once = now_from.once; others = other_racks; whole = λ is. absurd (let e : ◌≡◌ {A = Option ℕ} (Some count) None = is in cc) }
 
     pub broke_keeps : KeepsRacks (targets outputs report) a c
     broke_keeps = record {
@@ -176,6 +176,7 @@ module _ (outputs : List (List ℕ)) (report : List ℕ) (planes : List Plane) (
         breaks = breaks_next (plate_file (targets outputs report) planes 0 ∷ []) (record { name = report; bytes = text }) [] (rack_at a 0) (rack_at b 0) (rack_at c 0) e plate.keeps (plates_whole 0 (omega arith)) now;
         once = once_before (rack_at a 0).faults (rack_at b 0).faults (rack_at c 0).faults plate.well now.once;
         others = report_others;
+        whole = λ is k other less. subst (λ (r : RackState). WritesAll (plate_file (targets outputs report) planes k ∷ []) (rack_at a k) r) (sym (others k other)) (plates_whole k less);
       }
 
 -- The planes and then the report are written, or the report breaks.

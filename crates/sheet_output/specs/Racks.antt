@@ -70,7 +70,7 @@ HoldParts target planes before after = (k : ℕ) → k < length target.outputs
 
 -- The write of that file failed: its rack has written the files before it whole, and of it a
 -- prefix, or it is as before. Each other rack is as it was, or of its plate a prefix stands, or its
--- plate is whole.
+-- plate is whole. If the report is the file that failed, all plates are whole.
 pub record BreaksSheet (target : Targets) (planes : List Plane) (text : List ℕ)
     (file : Option ℕ) (before after : List RackState) : Type 0 where
   pub known : tray_of file < length target.outputs
@@ -80,6 +80,8 @@ pub record BreaksSheet (target : Targets) (planes : List Plane) (text : List ℕ
   pub others : (k : ℕ) → k ≢ tray_of file → (rack_at after k ≡ rack_at before k)
       ⊎ HoldsPart (plate_file target planes k) (rack_at before k) (rack_at after k)
       ⊎ WritesAll (plate_file target planes k ∷ []) (rack_at before k) (rack_at after k)
+  pub whole : file ≡ None → (k : ℕ) → k ≢ 0 → k < length target.outputs
+      → WritesAll (plate_file target planes k ∷ []) (rack_at before k) (rack_at after k)
 
 -- Planes that can be written as plates.
 pub record CanWrite (planes : List Plane) : Type 0 where

@@ -10,7 +10,7 @@ use Rattle.page_model.specs.Page.{height, maxval, plates, width}
 use Rattle.page_model.specs.Planes.{tints_of}
 use Rattle.pgm_plates.specs.declared.rows.OpenPlate.{OpenPlate}
 use Rattle.plate_rows.specs.Laws.{header_of}
-use Rattle.plate_rows.specs.Rereading.{IsReadTo, StopsReading}
+use Rattle.plate_rows.specs.Rereading.{IsReadTo, StopsBegun}
 use Rattle.plate_rows.specs.Trays.{open_at, tray_at}
 use Rattle.plate_rows.specs.declared.stop.RereadError.{RereadError}
 use Rattle.strip_steps.specs.declared.rows.Progress.{Progress}
@@ -88,7 +88,7 @@ module _ (bare : PageParts) (plan : StripPlan) (begun : List OpenPlate) (p : Pro
 
   module _ (trays trays' : List TrayState) (new : PageParts) (inputs : List (List ℕ)) (start : List TrayState) (holds : HoldsTo inputs bare begun (even_wide plan.down) p start trays strip) where
     -- the reading stops
-    pub reading_stops : (stop : RereadError) → ReadsRow bare begun p row strip new trays trays' (Err stop) → StopsReading inputs (header_of begun) (length begun) start trays' stop
+    pub reading_stops : (stop : RereadError) → ReadsRow bare begun p row strip new trays trays' (Err stop) → StopsBegun inputs (header_of begun) (length begun) start trays' stop
     reading_stops stop reads =
         stopped bare begun (even_wide plan.down) p row inputs start trays reads.turned headers (turned_holds reads.turned inputs start trays reads.turns.planes holds) next.wide next.below next.above next_inside (turned_room reads.turned reads.turns.planes) new trays' stop reads.reads
 

@@ -13,7 +13,7 @@ use Rattle.pgm_plates.specs.Rows.{HasRead, samples_of}
 use Rattle.plate_rows.specs.declared.rereading.NextRows.{NextRows}
 use Rattle.plate_rows.specs.declared.stop.RereadError.{RereadError}
 use Rattle.plate_rows.specs.Laws.{header_of}
-use Rattle.plate_rows.specs.Rereading.{HaveRead, IsReadTo, StopsReading}
+use Rattle.plate_rows.specs.Rereading.{HaveRead, IsReadTo, StopsBegun}
 use Rattle.plate_rows.specs.Trays.{name_at, open_at, tray_at}
 use Rattle.plate_rows.proofs.StopLemmas.{rows_stop}
 use Rattle.strip_steps.specs.declared.rows.Progress.{Progress}
@@ -85,7 +85,7 @@ module _ (bare : PageParts) (begun : List OpenPlate) (tall : ℕ) (p : Progress)
     in_strip c l = (let e = room.count in omega (arith, l, e))
 
     -- .. where the reading stops
-    pub stopped : (stop : RereadError) → ReadsStrip begun (rows_then bare p row) ((row.from - p.from) * width bare) strip new before after (Err stop) → StopsReading inputs (header_of begun) (length begun) start after stop
+    pub stopped : (stop : RereadError) → ReadsStrip begun (rows_then bare p row) ((row.from - p.from) * width bare) strip new before after (Err stop) → StopsBegun inputs (header_of begun) (length begun) start after stop
     stopped stop reads = rows_stop inputs begun holds.samples (rows_then bare p row) reads.copied new.planes start before after stop holds.read
         (record {
           count = λ k l. holds.count k (in_bare k l);

@@ -7,6 +7,7 @@ use Rattle.outside.specs.Tray.{TrayState, KeepsTray}
 use Rattle.outside.proofs.Names.{asks_all, asks_before, asks_then}
 use Rattle.page_gather.specs.Inputs.{Sources, name_at}
 use Rattle.page_gather.specs.Steps.{TakesPlate}
+use Rattle.page_gather.proofs.LookLemmas.{last_asked}
 use Rattle.pgm_plates.specs.declared.bounds.Bounds.TheVariants.{Sheet}
 use Rattle.pgm_plates.specs.declared.header.Header.{Header}
 use Rattle.pgm_plates.specs.declared.plate.PlateRefusal.TheVariants.{ReadFault}
@@ -17,7 +18,7 @@ use Rattle.plate_rows.specs.Trays.{TakesFile, TakesFiles}
 use Rattle.plate_rows.proofs.StopLemmas.{went_rows}
 use Rattle.bare_sheets.specs.declared.budget.Budget.{Budget}
 use Rattle.sheet_gather.specs.declared.planning.PlannedSheet.{PlannedSheet}
-use Rattle.sheet_gather.specs.Gathering.{AsksAll, AsksTwice, FailsAgain, HasChanged, InHand, StopsAgain, TakesTrays, TakesTwice}
+use Rattle.sheet_gather.specs.Gathering.{AsksAll, AsksTwice, FailsAgain, HasChanged, HasPlate, InHand, StopsAgain, TakesTrays, TakesTwice}
 use Rattle.sheet_gather.specs.Judging.{IsJudged, header_in}
 use Rattle.plate_rows.specs.Trays.{IsCalm, tray_at}
 use Rattle.sheet_gather.specs.Trays.{files_twice, tray_files}
@@ -74,8 +75,11 @@ module _ (source : Sources) (a b c : List TrayState) (one : TakesTrays source a 
           (asks_longer (tray_at a k).asked (tray_at b k).asked (tray_files source k) (name_at source.inputs k ∷ []) (one.asked k))
     ]
 
-    plate_at : (k : ℕ) → k < count → TakesPlate (name_at source.inputs k) (tray_at a k) (tray_at c k)
-    plate_at k less = takes_before (name_at source.inputs k) (tray_at a k) (tray_at b k) (tray_at c k) (one.keeps k) (takes_plate (name_at source.inputs k) (tray_at b k) (tray_at c k) (two.each k less))
+    plate_at : (k : ℕ) → k < count → HasPlate (name_at source.inputs k) (tray_at a k) (tray_at c k)
+    plate_at k less = (
+      takes_before (name_at source.inputs k) (tray_at a k) (tray_at b k) (tray_at c k) (one.keeps k) (takes_plate (name_at source.inputs k) (tray_at b k) (tray_at c k) (two.each k less)),
+      last_asked (name_at source.inputs k) (tray_at b k).asked (tray_at c k) (two.each k less).asked,
+    )
 
     hand_again : (k : ℕ) → k < count → InHand source k (tray_at a k) (tray_at c k)
     hand_again zero less = inr (inr (plate_at 0 less))

@@ -1,5 +1,5 @@
 -- How a command ends, from how its sheet was judged and put out.
-use Rattle.std.proofs.Common.{◌≡◌, ℕ, ◌<◌, ◌≤◌, List, Bor, length, map, Some, None, Result, Ok, Err, inl, inr, refl, sym, ap, ◌∙◌, subst, arith}
+use Rattle.std.proofs.Common.{◌≡◌, ◌⊎◌, ℕ, ◌<◌, ◌≤◌, List, Bor, length, map, Some, None, Result, Ok, Err, inl, inr, refl, sym, ap, ◌∙◌, subst, arith}
 use Rattle.std.proofs.lemmas.Bool.{cases_lt}
 use Rattle.std.proofs.lemmas.List.{length-map}
 use Rattle.bare_sheets.specs.Bare.{bare_sheet}
@@ -27,7 +27,7 @@ use Rattle.bare_sheets.specs.declared.budget.Budget.{Budget}
 use Rattle.sheet_gather.specs.declared.planning.PlannedSheet.{PlannedSheet}
 use Rattle.sheet_gather.specs.declared.stop.TrapsheetError.{TrapsheetError}
 use Rattle.sheet_gather.specs.declared.stop.TrapsheetError.TheVariants.{Common}
-use Rattle.sheet_gather.specs.Gathering.{AsksAll, AsksTwice, IsMadeSheet, TakesTrays, TakesTwice}
+use Rattle.sheet_gather.specs.Gathering.{AsksAll, IsMadeSheet, TakesTrays, TakesTwice}
 use Rattle.sheet_gather.specs.Judging.{AnswersJudging, IsJudged, JudgesSheet}
 use Rattle.sheet_gather.specs.Rereading.{SheetIsReread, tints_read}
 use Rattle.plate_rows.specs.Trays.{IsCalm, tray_at}
@@ -37,7 +37,7 @@ use Rattle.sheet_stream.specs.Reading.{HaveHeader}
 use Rattle.strip_tiles.specs.Whole.{IsCounted}
 use Rattle.tile_counts.specs.declared.counts.SheetCounts.{SheetCounts}
 use Rattle.verdicts.specs.Verdicts.{Targets}
-use Rattle.trapsheet_cli.specs.Endings.{Carries, CarriesOut, PutsOut}
+use Rattle.trapsheet_cli.specs.Endings.{AsksAllTwice, Carries, CarriesOut, PutsOut}
 use Rattle.sheet_output.specs.Reporting.{sheet_report}
 use Rattle.trapsheet_cli.specs.Planned.{PutsPlanned, PutsWhole}
 use Rattle.plate_rows.specs.Racks.{rack_at}
@@ -47,7 +47,7 @@ use Rattle.sheet_gather.specs.Stops.{error_of}
 use Rattle.trapsheet_cli.specs.Strips.{HasNoStrips}
 use Rattle.trapsheet_cli.specs.Files.{sources_of, targets_of}
 use Rattle.trapsheet_words.specs.Words.{SheetWords}
-use Rattle.trapsheet_cli.proofs.AgainLemmas.{fails_again, has_changed, once_or_twice, takes_once, takes_to, takes_twice, twice}
+use Rattle.trapsheet_cli.proofs.AgainLemmas.{fails_again, has_changed, takes_once, takes_to, takes_twice, twice}
 use Rattle.trapsheet_cli.proofs.PartLemmas.{breaks_keep, hold_parts, parts_keep, plate_breaks, writes_first}
 use Rattle.sheet_output.proofs.RackLemmas.{all_keeps, all_wrote, racks_same, report_broke}
 
@@ -151,17 +151,17 @@ module _ (reread : SheetIsReread) (law : NoChange) (order : SheetWords) (budget 
     }
 
     -- The second reading stopped at a plate, and of each plate a prefix stands at most.
-    module _ (s : List RackState) (sheet : PageParts) (made : IsMadeSheet source a sheet) (parts : HoldParts target (trapped_planes sheet) r s) (keeps : KeepsRacks target r s) (result : Result (Unit {0}) TrapsheetError) where
+    module _ (s : List RackState) (sheet : PageParts) (made : IsMadeSheet source a sheet) (again : (s ≡ r) ⊎ AsksAllTwice source a c) (parts : HoldParts target (trapped_planes sheet) r s) (keeps : KeepsRacks target r s) (result : Result (Unit {0}) TrapsheetError) where
       stops_at : (stop : RereadError) → result ≡ Err (error_of stop) → StopsReading source.inputs (λ k. sheet_header bare) (length source.inputs) b c stop → CarriesOut order a c r s result
       stops_at (ChangedAgain k) is stops = record {
         takes = takes_to source a b c read.takes read.asks read.calm k stops.0;
         keeps = keeps;
-        answer = Carries.changed sheet k is made (has_changed source a b c read.takes read.asks read.calm k stops.0 law budget judged read.is stops.1) parts;
+        answer = Carries.changed sheet k is made (has_changed source a b c read.takes read.asks read.calm k stops.0 law budget judged read.is stops.1) again parts;
       }
       stops_at (Unread k) is stops = record {
         takes = takes_to source a b c read.takes read.asks read.calm k stops.0;
         keeps = keeps;
-        answer = Carries.unread_again sheet k is made (fails_again source a b c read.takes read.asks read.calm k stops.0 stops.1) parts;
+        answer = Carries.unread_again sheet k is made (fails_again source a b c read.takes read.asks read.calm k stops.0 stops.1) again parts;
       }
 
       stops_in : (stop : RereadError) → result ≡ Err (error_of stop) → StopsReading source.inputs (λ k. sheet_header bare) (plates bare) b c stop → CarriesOut order a c r s result
@@ -170,16 +170,20 @@ module _ (reread : SheetIsReread) (law : NoChange) (order : SheetWords) (budget 
     -- .. before a file was created
     stops_before : (s : List RackState) (result : Result (Unit {0}) TrapsheetError) (stop : RereadError) → result ≡ Err (error_of stop) → StopsReading source.inputs (λ k. sheet_header bare) (plates bare) b c stop → s ≡ r → CarriesOut order a c r s result
     stops_before s result stop is stops stay =
-        stops_in s read.is.sheet read.is.made (λ k less. inl (ap (λ (t : List RackState). rack_at t k) stay))
+        stops_in s read.is.sheet read.is.made (inl stay) (λ k less. inl (ap (λ (t : List RackState). rack_at t k) stay))
         (subst (λ (t : List RackState). KeepsRacks target r t) (sym stay) (racks_same target r)) result stop is stops
+
+    -- All plates were opened again.
+    opened_twice : TakesFiles source.inputs (plates bare) b c → AsksAllTwice source a c
+    opened_twice takes k less = twice source a b c read.takes read.asks (plates bare) (let e = count in omega (arith, e)) takes k (let e = count in omega (arith, less, e))
 
     -- All plates were read once more.
     module _ (takes : TakesFiles source.inputs (plates bare) b c) (calm : (k : ℕ) → IsCalm b c k) where
       few : plates bare ≤ length source.inputs
       few = (let e = count in omega (arith, e))
 
-      all_twice : (k : ℕ) → k < length source.inputs → AsksTwice source a c k
-      all_twice k less = twice source a b c read.takes read.asks (plates bare) few takes k (let e = count in omega (arith, less, e))
+      all_twice : AsksAllTwice source a c
+      all_twice = opened_twice takes
 
       both_calm : (k : ℕ) → IsCalm a c k
       both_calm k = calm k ∙ read.calm k
@@ -197,7 +201,7 @@ module _ (reread : SheetIsReread) (law : NoChange) (order : SheetWords) (budget 
       puts_held s sheet result made whole (PutsOut.broke file is breaks keeps) = record {
         takes = both_taken;
         keeps = keeps;
-        answer = Carries.unwritten sheet file is made (λ k less. inr (all_twice k less)) both_calm breaks;
+        answer = Carries.unwritten sheet file is made all_twice both_calm breaks;
       }
       puts_held s sheet result made whole (PutsOut.no_memory is stay) = record {
         takes = both_taken;
@@ -216,7 +220,7 @@ module _ (reread : SheetIsReread) (law : NoChange) (order : SheetWords) (budget 
         ends_report result (EndsReport.broke failed is wrote) = record {
           takes = both_taken;
           keeps = all_keeps target.outputs target.report (trapped_planes sheet) (sheet_report sheet) r between s some first wrote.others (Err failed) (wrote.here sheet same counted);
-          answer = Carries.unwritten sheet None is made (λ k less. inr (all_twice k less)) both_calm (report_broke target.outputs target.report (trapped_planes sheet) (sheet_report sheet) r between s some first wrote.others failed (wrote.here sheet same counted));
+          answer = Carries.unwritten sheet None is made all_twice both_calm (report_broke target.outputs target.report (trapped_planes sheet) (sheet_report sheet) r between s some first wrote.others failed (wrote.here sheet same counted));
         }
 
     abbrev course : Course
@@ -243,7 +247,7 @@ module _ (reread : SheetIsReread) (law : NoChange) (order : SheetWords) (budget 
         let made = made_of was.begun was.samples was.between was.headers was.read in
         let begins = made.2 in
         let stand = un.written made.0 begins in
-        stops_in s made.0 made.1
+        stops_in s made.0 made.1 (inr (opened_twice un.takes))
         (hold_parts source.inputs target.outputs target.report b r bare made.0 (sheet_header bare) refl begins.same many s stand)
         (parts_keep source.inputs target.outputs target.report b r bare made.0 (sheet_header bare) refl begins.same many s stand)
         result stop is un.stops
@@ -258,7 +262,7 @@ module _ (reread : SheetIsReread) (law : NoChange) (order : SheetWords) (budget 
         record {
           takes = both_taken un.takes un.calm;
           keeps = breaks_keep source.inputs target.outputs target.report b r bare made.0 (sheet_header bare) refl begins.same many s k breaks;
-          answer = Carries.unwritten made.0 (Some k) is made.1 (once_or_twice source a b c read.takes read.asks (plates bare) (few un.takes un.calm) un.takes) (both_calm un.takes un.calm)
+          answer = Carries.unwritten made.0 (Some k) is made.1 (all_twice un.takes un.calm) (both_calm un.takes un.calm)
               (plate_breaks source.inputs target.outputs target.report b r bare made.0 (sheet_header bare) refl begins.same many s k breaks);
         }
 

@@ -20,8 +20,8 @@ use Rattle.sheet_gather.specs.Verdicts.{SheetVerdict, IsSheetVerdict, OneSheetVe
 use Rattle.sheet_gather.specs.Verdicts.SheetVerdict.{Accepted, Refused}
 use Rattle.sheet_gather.specs.declared.stop.TrapsheetError.{TrapsheetError}
 use Rattle.sheet_gather.specs.declared.stop.TrapsheetError.TheVariants.{Changed, Common, OfSheet}
-use Rattle.trapsheet_cli.specs.Clauses.{Changes, Completeness, FailsAtFirst, FailsLater, FailsToWrite, FaultLine, LeavesFiles, Mean, NoRackRose, NoTrayRose, ReadFault, RefusedInput, RefusesInput, StopsInParts, Success, Tell, Usage as UsageClause, WriteFault, Writes}
-use Rattle.trapsheet_cli.specs.Endings.{Carries, Closes, EndsSheet, EndsWords, RefusesFirst, RefusesWords, sheet_files}
+use Rattle.trapsheet_cli.specs.Clauses.{Changes, Completeness, FailsAtFirst, FailsLater, FailsToWrite, FaultLine, LeavesFiles, Mean, NoRackRose, NoTrayRose, ReadFault, RefusedInput, RefusesInput, Reopened, StopsInParts, Success, Tell, Usage as UsageClause, WriteFault, Writes}
+use Rattle.trapsheet_cli.specs.Endings.{AsksAllTwice, Carries, Closes, EndsSheet, EndsWords, RefusesFirst, RefusesWords, sheet_files}
 use Rattle.sheet_output.specs.Reporting.{sheet_report}
 use Rattle.plate_rows.specs.Racks.{rack_at}
 use Rattle.sheet_output.specs.Racks.{BreaksSheet, HoldParts, HoldsPart, KeepsRacks, plate_file, rack_names}
@@ -50,12 +50,12 @@ input_status (Changed plate) of_input = absurd of_input
 
 -- How a command of this sheet ended.
 data Ending (order : SheetWords) (t t' : List TrayState) (r r' : List RackState) (status : ℕ) : Type 0 where
-  done : status ≡ 0 → (sheet : PageParts) → IsMadeSheet (sources_of order) t sheet → ((k : ℕ) → k < length (sources_of order).inputs → AsksTwice (sources_of order) t t' k) → ((k : ℕ) → IsCalm t t' k) → ((k : ℕ) → k < length (targets_of order).outputs → WritesAll (sheet_files (targets_of order) sheet k) (rack_at r k) (rack_at r' k)) → KeepsRacks (targets_of order) r r' → Ending order t t' r r' status
+  done : status ≡ 0 → (sheet : PageParts) → IsMadeSheet (sources_of order) t sheet → AsksAllTwice (sources_of order) t t' → ((k : ℕ) → IsCalm t t' k) → ((k : ℕ) → k < length (targets_of order).outputs → WritesAll (sheet_files (targets_of order) sheet k) (rack_at r k) (rack_at r' k)) → KeepsRacks (targets_of order) r r' → Ending order t t' r r' status
   refused : (stop : TrapsheetError) → (status ≡ 3) ⊎ (status ≡ 4) → RefusesFiles (sources_of order) t t' stop → RefusesFirst stop r r' status → Ending order t t' r r' status
   unread : (file : Option ℕ) → status ≡ 5 → FailsToRead (sources_of order) t t' file → TakesTrays (sources_of order) t t' → RefusesFirst (Common (Read file)) r r' status → Ending order t t' r r' status
-  unwritten : (sheet : PageParts) (file : Option ℕ) (between : List RackState) → status ≡ 6 → IsMadeSheet (sources_of order) t sheet → ((k : ℕ) → IsCalm t t' k) → BreaksSheet (targets_of order) (trapped_planes sheet) (sheet_report sheet) file r between → KeepsRacks (targets_of order) r between → RefusesFirst (Common (Write file)) between r' status → Ending order t t' r r' status
-  changed : (sheet : PageParts) (plate : ℕ) (between : List RackState) → status ≡ 4 → IsMadeSheet (sources_of order) t sheet → HasChanged (sources_of order) plate t t' → HoldParts (targets_of order) (trapped_planes sheet) r between → KeepsRacks (targets_of order) r between → RefusesFirst (Changed plate) between r' status → Ending order t t' r r' status
-  unread_again : (sheet : PageParts) (plate : ℕ) (between : List RackState) → status ≡ 5 → IsMadeSheet (sources_of order) t sheet → FailsAgain (sources_of order) plate t t' → HoldParts (targets_of order) (trapped_planes sheet) r between → KeepsRacks (targets_of order) r between → RefusesFirst (Common (Read (Some plate))) between r' status → Ending order t t' r r' status
+  unwritten : (sheet : PageParts) (file : Option ℕ) (between : List RackState) → status ≡ 6 → IsMadeSheet (sources_of order) t sheet → AsksAllTwice (sources_of order) t t' → ((k : ℕ) → IsCalm t t' k) → BreaksSheet (targets_of order) (trapped_planes sheet) (sheet_report sheet) file r between → KeepsRacks (targets_of order) r between → RefusesFirst (Common (Write file)) between r' status → Ending order t t' r r' status
+  changed : (sheet : PageParts) (plate : ℕ) (between : List RackState) → status ≡ 4 → IsMadeSheet (sources_of order) t sheet → HasChanged (sources_of order) plate t t' → (between ≡ r) ⊎ AsksAllTwice (sources_of order) t t' → HoldParts (targets_of order) (trapped_planes sheet) r between → KeepsRacks (targets_of order) r between → RefusesFirst (Changed plate) between r' status → Ending order t t' r r' status
+  unread_again : (sheet : PageParts) (plate : ℕ) (between : List RackState) → status ≡ 5 → IsMadeSheet (sources_of order) t sheet → FailsAgain (sources_of order) plate t t' → (between ≡ r) ⊎ AsksAllTwice (sources_of order) t t' → HoldParts (targets_of order) (trapped_planes sheet) r between → KeepsRacks (targets_of order) r between → RefusesFirst (Common (Read (Some plate))) between r' status → Ending order t t' r r' status
   no_memory : status ≡ 7 → ((k : ℕ) → IsCalm t t' k) → TakesTrays (sources_of order) t t' ⊎ IsWhole (sources_of order) t → RefusesFirst (Common Memory) r r' status → Ending order t t' r r' status
 
 module _ (order : SheetWords) (t t' : List TrayState) (r between r' : List RackState) (status : ℕ) (keeps : KeepsRacks (targets_of order) r between) where
@@ -86,15 +86,15 @@ module _ (order : SheetWords) (t t' : List TrayState) (r between r' : List RackS
   ending_by result (Carries.unread file is fails takes same) closed =
       let told = closes_err result (Common (Read file)) is closed in
       unread file told.first.status_is fails takes (first_from (Common (Read file)) same told)
-  ending_by result (Carries.changed sheet plate is made change parts) closed =
+  ending_by result (Carries.changed sheet plate is made change again parts) closed =
       let told = closes_err result (Changed plate) is closed in
-      changed sheet plate between told.first.status_is made change parts keeps told
-  ending_by result (Carries.unread_again sheet plate is made fails parts) closed =
+      changed sheet plate between told.first.status_is made change again parts keeps told
+  ending_by result (Carries.unread_again sheet plate is made fails again parts) closed =
       let told = closes_err result (Common (Read (Some plate))) is closed in
-      unread_again sheet plate between told.first.status_is made fails parts keeps told
+      unread_again sheet plate between told.first.status_is made fails again parts keeps told
   ending_by result (Carries.unwritten sheet file is made asks calm breaks) closed =
       let told = closes_err result (Common (Write file)) is closed in
-      unwritten sheet file between told.first.status_is made calm breaks keeps told
+      unwritten sheet file between told.first.status_is made asks calm breaks keeps told
   ending_by result (Carries.no_memory is calm takes same) closed =
       let told = closes_err result (Common Memory) is closed in
       no_memory told.first.status_is calm takes (first_from (Common Memory) same told)
@@ -128,9 +128,9 @@ status_by order t t' r r' status (done is sheet made asks calm wrote keeps) = in
 status_by order t t' r r' status (refused stop (inl is) files told) = inr (omega arith, omega arith)
 status_by order t t' r r' status (refused stop (inr is) files told) = inr (omega arith, omega arith)
 status_by order t t' r r' status (unread file is fails takes told) = inr (omega arith, omega arith)
-status_by order t t' r r' status (changed sheet plate between is made change parts keeps told) = inr (omega arith, omega arith)
-status_by order t t' r r' status (unread_again sheet plate between is made fails parts keeps told) = inr (omega arith, omega arith)
-status_by order t t' r r' status (unwritten sheet file between is made calm breaks keeps told) = inr (omega arith, omega arith)
+status_by order t t' r r' status (changed sheet plate between is made change again parts keeps told) = inr (omega arith, omega arith)
+status_by order t t' r r' status (unread_again sheet plate between is made fails again parts keeps told) = inr (omega arith, omega arith)
+status_by order t t' r r' status (unwritten sheet file between is made asks calm breaks keeps told) = inr (omega arith, omega arith)
 status_by order t t' r r' status (no_memory is calm takes told) = inr (omega arith, omega arith)
 
 -- no count of a rack rose where its files are written
@@ -157,9 +157,9 @@ module _ (words : List (List ℕ)) (t t' : List TrayState) (r r' : List RackStat
   calm_by order (refused stop (inl is) files told) s k = absurd (omega arith)
   calm_by order (refused stop (inr is) files told) s k = absurd (omega arith)
   calm_by order (unread file is fails takes told) s k = absurd (omega arith)
-  calm_by order (changed sheet plate between is made change parts keeps told) s k = absurd (omega arith)
-  calm_by order (unread_again sheet plate between is made fails parts keeps told) s k = absurd (omega arith)
-  calm_by order (unwritten sheet file between is made calm breaks keeps told) s k = absurd (omega arith)
+  calm_by order (changed sheet plate between is made change again parts keeps told) s k = absurd (omega arith)
+  calm_by order (unread_again sheet plate between is made fails again parts keeps told) s k = absurd (omega arith)
+  calm_by order (unwritten sheet file between is made asks calm breaks keeps told) s k = absurd (omega arith)
   calm_by order (no_memory is calm takes told) s k = absurd (omega arith)
 
   all_calm : EndsWords words t t' r r' status → status ≡ 0 → (k : ℕ) → IsCalm t t' k × ((rack_at r' k).faults ≡ (rack_at r k).faults)
@@ -171,9 +171,9 @@ module _ (words : List (List ℕ)) (t t' : List TrayState) (r r' : List RackStat
   writes_by order (refused stop (inl is) files told) s = absurd (omega arith)
   writes_by order (refused stop (inr is) files told) s = absurd (omega arith)
   writes_by order (unread file is fails takes told) s = absurd (omega arith)
-  writes_by order (changed sheet plate between is made change parts keeps told) s = absurd (omega arith)
-  writes_by order (unread_again sheet plate between is made fails parts keeps told) s = absurd (omega arith)
-  writes_by order (unwritten sheet file between is made calm breaks keeps told) s = absurd (omega arith)
+  writes_by order (changed sheet plate between is made change again parts keeps told) s = absurd (omega arith)
+  writes_by order (unread_again sheet plate between is made fails again parts keeps told) s = absurd (omega arith)
+  writes_by order (unwritten sheet file between is made asks calm breaks keeps told) s = absurd (omega arith)
   writes_by order (no_memory is calm takes told) s = absurd (omega arith)
 
   pub success : EndsWords words t t' r r' status → Success words t t' r r' status
@@ -228,15 +228,15 @@ module _ (words : List (List ℕ)) (t t' : List TrayState) (r r' : List RackStat
 
   only_by : (order : SheetWords) → Ending order t t' r r' status → (status ≡ 3) ⊎ (status ≡ 4) → Refusal order
   only_by order (refused stop is files told) s = inl (stop, record { status_is = told.first.status_is; files = files; line = told.first.line; kept = told_files stop told })
-  only_by order (changed sheet plate between is made change parts keeps told) s = inr (plate, record { status_is = is; changed = change; stops = in_parts order sheet between (Changed plate) made parts keeps told })
+  only_by order (changed sheet plate between is made change again parts keeps told) s = inr (plate, record { status_is = is; changed = change; stops = in_parts order sheet between (Changed plate) made parts keeps told })
   only_by order (done is sheet made asks calm wrote keeps) (inl s) = absurd (omega arith)
   only_by order (done is sheet made asks calm wrote keeps) (inr s) = absurd (omega arith)
   only_by order (unread file is fails takes told) (inl s) = absurd (omega arith)
   only_by order (unread file is fails takes told) (inr s) = absurd (omega arith)
-  only_by order (unread_again sheet plate between is made fails parts keeps told) (inl s) = absurd (omega arith)
-  only_by order (unread_again sheet plate between is made fails parts keeps told) (inr s) = absurd (omega arith)
-  only_by order (unwritten sheet file between is made calm breaks keeps told) (inl s) = absurd (omega arith)
-  only_by order (unwritten sheet file between is made calm breaks keeps told) (inr s) = absurd (omega arith)
+  only_by order (unread_again sheet plate between is made fails again parts keeps told) (inl s) = absurd (omega arith)
+  only_by order (unread_again sheet plate between is made fails again parts keeps told) (inr s) = absurd (omega arith)
+  only_by order (unwritten sheet file between is made asks calm breaks keeps told) (inl s) = absurd (omega arith)
+  only_by order (unwritten sheet file between is made asks calm breaks keeps told) (inr s) = absurd (omega arith)
   only_by order (no_memory is calm takes told) (inl s) = absurd (omega arith)
   only_by order (no_memory is calm takes told) (inr s) = absurd (omega arith)
 
@@ -253,9 +253,9 @@ module _ (words : List (List ℕ)) (t t' : List TrayState) (r r' : List RackStat
       let same : other ≡ stop = cc in
       inl (told.first.status_is ∙ ap status_of_stop same)
   always_by order stop one tells verdict calm_trays (unread file is fails takes told) = absurd (calm_trays (tray_of file) fails.rose)
-  always_by order stop one tells verdict calm_trays (changed sheet plate between is made change parts keeps told) = absurd (change.untold (tells plate change.stops.known))
-  always_by order stop one tells verdict calm_trays (unread_again sheet plate between is made fails parts keeps told) = absurd (calm_trays plate fails.rose)
-  always_by order stop one tells verdict calm_trays (unwritten sheet file between is made calm breaks keeps told) = absurd (accepted_or order sheet stop one made tells verdict)
+  always_by order stop one tells verdict calm_trays (changed sheet plate between is made change again parts keeps told) = absurd (change.untold (tells plate change.stops.known))
+  always_by order stop one tells verdict calm_trays (unread_again sheet plate between is made fails again parts keeps told) = absurd (calm_trays plate fails.rose)
+  always_by order stop one tells verdict calm_trays (unwritten sheet file between is made asks calm breaks keeps told) = absurd (accepted_or order sheet stop one made tells verdict)
   always_by order stop one tells verdict calm_trays (no_memory is calm takes told) = inr is
 
   pub refused_input : OneSheetVerdict → EndsWords words t t' r r' status → RefusedInput words t t' r r' status
@@ -269,12 +269,12 @@ module _ (words : List (List ℕ)) (t t' : List TrayState) (r r' : List RackStat
 
   unread_by : (order : SheetWords) → Ending order t t' r r' status → status ≡ 5 → Unread order
   unread_by order (unread file is fails takes told) s = inl (file, record { fails = fails; takes = takes; line = told.first.line; kept = told_files (Common (Read file)) told })
-  unread_by order (unread_again sheet plate between is made fails parts keeps told) s = inr (plate, record { fails = fails; stops = in_parts order sheet between (Common (Read (Some plate))) made parts keeps told })
+  unread_by order (unread_again sheet plate between is made fails again parts keeps told) s = inr (plate, record { fails = fails; stops = in_parts order sheet between (Common (Read (Some plate))) made parts keeps told })
   unread_by order (done is sheet made asks calm wrote keeps) s = absurd (omega arith)
   unread_by order (refused stop (inl is) files told) s = absurd (omega arith)
   unread_by order (refused stop (inr is) files told) s = absurd (omega arith)
-  unread_by order (changed sheet plate between is made change parts keeps told) s = absurd (omega arith)
-  unread_by order (unwritten sheet file between is made calm breaks keeps told) s = absurd (omega arith)
+  unread_by order (changed sheet plate between is made change again parts keeps told) s = absurd (omega arith)
+  unread_by order (unwritten sheet file between is made asks calm breaks keeps told) s = absurd (omega arith)
   unread_by order (no_memory is calm takes told) s = absurd (omega arith)
 
   unread_rose : (order : SheetWords) → Unread order → (k : ℕ) × Rose (tray_at t k).faults (tray_at t' k).faults
@@ -286,14 +286,14 @@ module _ (words : List (List ℕ)) (t t' : List TrayState) (r r' : List RackStat
   read_cause (EndsWords.sheet order also ended) s = unread_rose order (unread_by order (ending order t t' r r' status ended) s)
 
   six_calm : (order : SheetWords) → Ending order t t' r r' status → (status ≡ 6) ⊎ (status ≡ 7) → (k : ℕ) → IsCalm t t' k
-  six_calm order (unwritten sheet file between is made calm breaks keeps told) s k = calm k
+  six_calm order (unwritten sheet file between is made asks calm breaks keeps told) s k = calm k
   six_calm order (no_memory is calm takes told) s k = calm k
   six_calm order (done is sheet made asks calm wrote keeps) s k = calm k
   six_calm order (refused stop (inl is) files told) s k = elim s [ inl a ↦ absurd (omega arith) | inr a ↦ absurd (omega arith) ]
   six_calm order (refused stop (inr is) files told) s k = elim s [ inl a ↦ absurd (omega arith) | inr a ↦ absurd (omega arith) ]
   six_calm order (unread file is fails takes told) s k = elim s [ inl a ↦ absurd (omega arith) | inr a ↦ absurd (omega arith) ]
-  six_calm order (changed sheet plate between is made change parts keeps told) s k = elim s [ inl a ↦ absurd (omega arith) | inr a ↦ absurd (omega arith) ]
-  six_calm order (unread_again sheet plate between is made fails parts keeps told) s k = elim s [ inl a ↦ absurd (omega arith) | inr a ↦ absurd (omega arith) ]
+  six_calm order (changed sheet plate between is made change again parts keeps told) s k = elim s [ inl a ↦ absurd (omega arith) | inr a ↦ absurd (omega arith) ]
+  six_calm order (unread_again sheet plate between is made fails again parts keeps told) s k = elim s [ inl a ↦ absurd (omega arith) | inr a ↦ absurd (omega arith) ]
 
   calm_at : EndsWords words t t' r r' status → (status ≡ 6) ⊎ (status ≡ 7) → (k : ℕ) → IsCalm t t' k
   calm_at (EndsWords.no_sheet none same told) s k = ap (λ (u : List TrayState). (tray_at u k).faults) same
@@ -305,9 +305,9 @@ module _ (words : List (List ℕ)) (t t' : List TrayState) (r r' : List RackStat
   once_by order (refused stop (inl is) files told) s = absurd (omega arith)
   once_by order (refused stop (inr is) files told) s = absurd (omega arith)
   once_by order (unread file is fails takes told) s = absurd (omega arith)
-  once_by order (changed sheet plate between is made change parts keeps told) s = absurd (omega arith)
-  once_by order (unread_again sheet plate between is made fails parts keeps told) s = absurd (omega arith)
-  once_by order (unwritten sheet file between is made calm breaks keeps told) s = absurd (omega arith)
+  once_by order (changed sheet plate between is made change again parts keeps told) s = absurd (omega arith)
+  once_by order (unread_again sheet plate between is made fails again parts keeps told) s = absurd (omega arith)
+  once_by order (unwritten sheet file between is made asks calm breaks keeps told) s = absurd (omega arith)
 
   pub read_fault : EndsWords words t t' r r' status → ReadFault words t t' r r' status
   read_fault ended = record {
@@ -326,13 +326,13 @@ module _ (words : List (List ℕ)) (t t' : List TrayState) (r r' : List RackStat
   ]
 
   write_rose : (order : SheetWords) → Ending order t t' r r' status → status ≡ 6 → (k : ℕ) × Rose (rack_at r k).faults (rack_at r' k).faults
-  write_rose order (unwritten sheet file between is made calm breaks keeps told) s = (tray_of file, rose_told order file (tray_of file) between keeps breaks.breaks.cause told)
+  write_rose order (unwritten sheet file between is made asks calm breaks keeps told) s = (tray_of file, rose_told order file (tray_of file) between keeps breaks.breaks.cause told)
   write_rose order (done is sheet made asks calm wrote keeps) s = absurd (omega arith)
   write_rose order (refused stop (inl is) files told) s = absurd (omega arith)
   write_rose order (refused stop (inr is) files told) s = absurd (omega arith)
   write_rose order (unread file is fails takes told) s = absurd (omega arith)
-  write_rose order (changed sheet plate between is made change parts keeps told) s = absurd (omega arith)
-  write_rose order (unread_again sheet plate between is made fails parts keeps told) s = absurd (omega arith)
+  write_rose order (changed sheet plate between is made change again parts keeps told) s = absurd (omega arith)
+  write_rose order (unread_again sheet plate between is made fails again parts keeps told) s = absurd (omega arith)
   write_rose order (no_memory is calm takes told) s = absurd (omega arith)
 
   write_cause : EndsWords words t t' r r' status → status ≡ 6 → (k : ℕ) × Rose (rack_at r k).faults (rack_at r' k).faults
@@ -340,7 +340,7 @@ module _ (words : List (List ℕ)) (t t' : List TrayState) (r r' : List RackStat
   write_cause (EndsWords.sheet order also ended) s = write_rose order (ending order t t' r r' status ended) s
 
   write_by : (order : SheetWords) → Ending order t t' r r' status → status ≡ 6 → FailsToWrite order t r r'
-  write_by order (unwritten sheet file between is made calm breaks keeps told) s = record {
+  write_by order (unwritten sheet file between is made asks calm breaks keeps told) s = record {
     sheet = sheet;
     file = file;
     between = between;
@@ -355,8 +355,8 @@ module _ (words : List (List ℕ)) (t t' : List TrayState) (r r' : List RackStat
   write_by order (refused stop (inl is) files told) s = absurd (omega arith)
   write_by order (refused stop (inr is) files told) s = absurd (omega arith)
   write_by order (unread file is fails takes told) s = absurd (omega arith)
-  write_by order (changed sheet plate between is made change parts keeps told) s = absurd (omega arith)
-  write_by order (unread_again sheet plate between is made fails parts keeps told) s = absurd (omega arith)
+  write_by order (changed sheet plate between is made change again parts keeps told) s = absurd (omega arith)
+  write_by order (unread_again sheet plate between is made fails again parts keeps told) s = absurd (omega arith)
   write_by order (no_memory is calm takes told) s = absurd (omega arith)
 
   pub write_fault : EndsWords words t t' r r' status → WriteFault words t r r' status
@@ -367,13 +367,30 @@ module _ (words : List (List ℕ)) (t t' : List TrayState) (r r' : List RackStat
     beyond = λ order means k more. (let e = ended_of order means ended in closed_beyond order t t' r e.between r' status e.carried.keeps e.result e.closed (let some = e.some in omega (arith, some, length-map order.plates (λ (p : PlateNames). p.output))) k more);
   }
 
+  -- where the line alone was printed, or each plate was opened again
+  kept_or : (order : SheetWords) (stop : TrapsheetError) (between : List RackState) → RefusesFirst stop between r' status → (between ≡ r) ⊎ AsksAllTwice (sources_of order) t t' → ((k : ℕ) → KeepsFiles (rack_at r k) (rack_at r' k)) ⊎ AsksAllTwice (sources_of order) t t'
+  kept_or order stop between told (inl same) = inl (told_files stop (subst (λ (s : List RackState). RefusesFirst stop s r' status) same told))
+  kept_or order stop between told (inr again) = inr again
+
+  reopened_by : (order : SheetWords) → Ending order t t' r r' status → ((k : ℕ) → KeepsFiles (rack_at r k) (rack_at r' k)) ⊎ AsksAllTwice (sources_of order) t t'
+  reopened_by order (done is sheet made asks calm wrote keeps) = inr asks
+  reopened_by order (refused stop is files told) = inl (told_files stop told)
+  reopened_by order (unread file is fails takes told) = inl (told_files (Common (Read file)) told)
+  reopened_by order (changed sheet plate between is made change again parts keeps told) = kept_or order (Changed plate) between told again
+  reopened_by order (unread_again sheet plate between is made fails again parts keeps told) = kept_or order (Common (Read (Some plate))) between told again
+  reopened_by order (unwritten sheet file between is made asks calm breaks keeps told) = inr asks
+  reopened_by order (no_memory is calm takes told) = inl (told_files (Common Memory) told)
+
+  pub reopened : EndsWords words t t' r r' status → Reopened words t t' r r'
+  reopened ended order means = reopened_by order (of order means ended)
+
   leaves_by : (order : SheetWords) → Ending order t t' r r' status → status ≢ 0 → status ≢ 4 → status ≢ 5 → status ≢ 6 → (k : ℕ) → KeepsFiles (rack_at r k) (rack_at r' k)
   leaves_by order (done is sheet made asks calm wrote keeps) some page read other = absurd (some is)
   leaves_by order (refused stop is files told) some page read other = told_files stop told
   leaves_by order (unread file is fails takes told) some page read other = told_files (Common (Read file)) told
-  leaves_by order (changed sheet plate between is made change parts keeps told) some page read other = absurd (page is)
-  leaves_by order (unread_again sheet plate between is made fails parts keeps told) some page read other = absurd (read is)
-  leaves_by order (unwritten sheet file between is made calm breaks keeps told) some page read other = absurd (other is)
+  leaves_by order (changed sheet plate between is made change again parts keeps told) some page read other = absurd (page is)
+  leaves_by order (unread_again sheet plate between is made fails again parts keeps told) some page read other = absurd (read is)
+  leaves_by order (unwritten sheet file between is made asks calm breaks keeps told) some page read other = absurd (other is)
   leaves_by order (no_memory is calm takes told) some page read other = told_files (Common Memory) told
 
   words_files : RefusesWords r r' status → (k : ℕ) → KeepsFiles (rack_at r k) (rack_at r' k)
@@ -406,9 +423,9 @@ module _ (words : List (List ℕ)) (t t' : List TrayState) (r r' : List RackStat
   line_by order (done is sheet made asks calm wrote keeps) some other = absurd (some is)
   line_by order (refused stop is files told) some other = (stop, told.first.status_is, told.first.line)
   line_by order (unread file is fails takes told) some other = (Common (Read file), told.first.status_is, told.first.line)
-  line_by order (changed sheet plate between is made change parts keeps told) some other = (Changed plate, told.first.status_is, line_after order (Changed plate) sheet between parts keeps (some_outputs order plate change.stops.known) told)
-  line_by order (unread_again sheet plate between is made fails parts keeps told) some other = (Common (Read (Some plate)), told.first.status_is, line_after order (Common (Read (Some plate))) sheet between parts keeps (some_outputs order plate fails.stops.known) told)
-  line_by order (unwritten sheet file between is made calm breaks keeps told) some other = absurd (other is)
+  line_by order (changed sheet plate between is made change again parts keeps told) some other = (Changed plate, told.first.status_is, line_after order (Changed plate) sheet between parts keeps (some_outputs order plate change.stops.known) told)
+  line_by order (unread_again sheet plate between is made fails again parts keeps told) some other = (Common (Read (Some plate)), told.first.status_is, line_after order (Common (Read (Some plate))) sheet between parts keeps (some_outputs order plate fails.stops.known) told)
+  line_by order (unwritten sheet file between is made asks calm breaks keeps told) some other = absurd (other is)
   line_by order (no_memory is calm takes told) some other = (Common Memory, told.first.status_is, told.first.line)
 
   stopped : EndsWords words t t' r r' status → status ≢ 0 → status ≢ 2 → status ≢ 6 → (stop : TrapsheetError) × (status ≡ status_of_stop stop) × TellsText (line_of_stop stop) (rack_at r 0) (rack_at r' 0)
@@ -421,9 +438,9 @@ module _ (words : List (List ℕ)) (t t' : List TrayState) (r r' : List RackStat
   memory_by order (refused stop (inl is) files told) s = absurd (omega arith)
   memory_by order (refused stop (inr is) files told) s = absurd (omega arith)
   memory_by order (unread file is fails takes told) s = absurd (omega arith)
-  memory_by order (changed sheet plate between is made change parts keeps told) s = absurd (omega arith)
-  memory_by order (unread_again sheet plate between is made fails parts keeps told) s = absurd (omega arith)
-  memory_by order (unwritten sheet file between is made calm breaks keeps told) s = absurd (omega arith)
+  memory_by order (changed sheet plate between is made change again parts keeps told) s = absurd (omega arith)
+  memory_by order (unread_again sheet plate between is made fails again parts keeps told) s = absurd (omega arith)
+  memory_by order (unwritten sheet file between is made asks calm breaks keeps told) s = absurd (omega arith)
 
   memory_line : EndsWords words t t' r r' status → status ≡ 7 → TellsText (line_of_stop (Common Memory)) (rack_at r 0) (rack_at r' 0)
   memory_line (EndsWords.no_sheet none same told) s = absurd (let e : status ≡ 2 = told.status_is in omega arith)
@@ -441,9 +458,9 @@ module _ (words : List (List ℕ)) (t t' : List TrayState) (r r' : List RackStat
   complete_by order sheet one tells verdict calm_trays calm_racks (refused stop is files told) =
       absurd (let e : ◌≡◌ {A = SheetVerdict} (Accepted sheet) (Refused stop) = one (held_by t (sources_of order)) (sources_of order).names (Accepted sheet) (Refused stop) verdict (files.verdict tells) in cc)
   complete_by order sheet one tells verdict calm_trays calm_racks (unread file is fails takes told) = absurd (calm_trays (tray_of file) fails.rose)
-  complete_by order sheet one tells verdict calm_trays calm_racks (changed other plate between is made change parts keeps told) = absurd (change.untold (tells plate change.stops.known))
-  complete_by order sheet one tells verdict calm_trays calm_racks (unread_again other plate between is made fails parts keeps told) = absurd (calm_trays plate fails.rose)
-  complete_by order sheet one tells verdict calm_trays calm_racks (unwritten other file between is made calm breaks keeps told) = absurd (calm_racks (tray_of file) (rose_told order file (tray_of file) between keeps breaks.breaks.cause told))
+  complete_by order sheet one tells verdict calm_trays calm_racks (changed other plate between is made change again parts keeps told) = absurd (change.untold (tells plate change.stops.known))
+  complete_by order sheet one tells verdict calm_trays calm_racks (unread_again other plate between is made fails again parts keeps told) = absurd (calm_trays plate fails.rose)
+  complete_by order sheet one tells verdict calm_trays calm_racks (unwritten other file between is made asks calm breaks keeps told) = absurd (calm_racks (tray_of file) (rose_told order file (tray_of file) between keeps breaks.breaks.cause told))
   complete_by order sheet one tells verdict calm_trays calm_racks (no_memory is calm takes told) = inr is
 
   statuses : EndsWords words t t' r r' status → (status ≡ 0) ⊎ ((2 ≤ status) × (status ≤ 7))

@@ -1,5 +1,5 @@
 -- Plates that were written by rows, as the files of a sheet: whole, in part, or broken off.
-use Rattle.std.proofs.Common.{◌≡◌, ◌≢◌, ◌⊎◌, ℕ, zero, suc, ◌<◌, IsTrue, List, [], ◌∷◌, length, take, Some, Ok, Err, inl, inr, refl, sym, ap, ◌∙◌, subst, arith}
+use Rattle.std.proofs.Common.{◌≡◌, ◌≢◌, ◌⊎◌, ℕ, zero, suc, ◌<◌, IsTrue, List, [], ◌∷◌, length, take, Option, Some, None, Ok, Err, inl, inr, refl, sym, ap, ◌∙◌, subst, arith}
 use Rattle.std.proofs.lemmas.Bool.{cases_eq, cases_lt}
 use Rattle.bare_sheets.specs.Bare.{bare_sheet}
 use Rattle.bare_sheets.proofs.BareLemmas.{height_is, maxval_is, plates_is, width_is}
@@ -181,4 +181,4 @@ module _ (inputs outputs : List (List ℕ)) (report : List ℕ) (trays : List Tr
       }
 
       pub plate_breaks : BreaksSheet target planes (sheet_report sheet) (Some k) a b
-      plate_breaks = record { known = within; breaks = breaks_at k here; once = here.once; others = others }
+      plate_breaks = record { known = within; breaks = breaks_at k here; once = here.once; others = others; whole = λ is. absurd (let e : ◌≡◌ {A = Option ℕ} (Some k) None = is in cc) }

@@ -24,7 +24,7 @@ use Rattle.sheet_gather.specs.Trays.{AllTell}
 use Rattle.sheet_gather.specs.Verdicts.{IsSheetVerdict, Accepted, Refused}
 use Rattle.sheet_gather.specs.declared.stop.TrapsheetError.{TrapsheetError}
 use Rattle.sheet_gather.specs.declared.stop.TrapsheetError.TheVariants.{Changed, Common}
-use Rattle.trapsheet_cli.specs.Endings.{sheet_files}
+use Rattle.trapsheet_cli.specs.Endings.{AsksAllTwice, sheet_files}
 use Rattle.sheet_output.specs.Reporting.{sheet_report}
 use Rattle.verdicts.specs.Locality.{ChangesNearEdges}
 use Rattle.plate_rows.specs.Racks.{rack_at}
@@ -163,6 +163,13 @@ pub record ReadFault (words : List (List ℕ)) (trays trays' : List TrayState)
       → (k : ℕ) → IsCalm trays trays' k
   pub once : (order : SheetWords) → Mean words order → status ≡ out_of_memory
       → TakesTrays (sources_of order) trays trays' ⊎ IsWhole (sources_of order) trays
+
+-- No file is created or changed, or each plate was opened a second time.
+abbrev pub Reopened : List (List ℕ) → List TrayState → List TrayState → List RackState
+    → List RackState → Type 0
+Reopened words trays trays' racks racks' = (order : SheetWords) → Mean words order
+    → ((k : ℕ) → KeepsFiles (rack_at racks k) (rack_at racks' k))
+    ⊎ AsksAllTwice (sources_of order) trays trays'
 
 -- What comes where a write fails, at a sheet that was made. Of the rack of that file, those before
 -- it are whole, and it holds a prefix of its bytes or is as before; each other rack is as before,

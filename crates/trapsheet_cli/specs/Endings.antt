@@ -11,7 +11,7 @@ use Rattle.page_writing.specs.Writing.{WritesAll}
 use Rattle.refusals.specs.declared.refusal.Refusal.TheVariants.{Memory, Read, Write}
 use Rattle.refusals.specs.Statuses.{done, usage}
 use Rattle.refusals.specs.Telling.{KeepsFiles, TellsText}
-use Rattle.sheet_gather.specs.Gathering.{AsksAll, AsksTwice, FailsAgain, FailsToRead, HasChanged}
+use Rattle.sheet_gather.specs.Gathering.{AsksTwice, FailsAgain, FailsToRead, HasChanged}
 use Rattle.sheet_gather.specs.Gathering.{IsMadeSheet, RefusesFiles, TakesTrays, TakesTwice}
 use Rattle.sheet_gather.specs.Stops.{RefusesSheet}
 use Rattle.plate_rows.specs.Trays.{IsCalm}
@@ -43,11 +43,17 @@ pub data PutsOut (target : Targets) (sheet : PageParts) (before after : List Rac
   no_memory : result ≡ Err (Common Memory) → after ≡ before
       → PutsOut target sheet before after result
 
--- A sheet is judged, read again, trapped and put out: up to the first thing that stops it.
+-- Each plate was opened a second time.
+abbrev pub AsksAllTwice : Sources → List TrayState → List TrayState → Type 0
+AsksAllTwice source trays trays' =
+    (k : ℕ) → k < length source.inputs → AsksTwice source trays trays' k
+
+-- A sheet is judged, read again, trapped and put out: up to the first thing that stops it. No file
+-- is created before each plate is opened again.
 pub data Carries (source : Sources) (target : Targets) (trays trays' : List TrayState)
     (racks racks' : List RackState) (result : Result (Unit {0}) TrapsheetError) : Type 0 where
   carried : (sheet : PageParts) → result ≡ Ok tt → IsMadeSheet source trays sheet
-      → ((k : ℕ) → k < length source.inputs → AsksTwice source trays trays' k)
+      → AsksAllTwice source trays trays'
       → ((k : ℕ) → IsCalm trays trays' k)
       → ((k : ℕ) → k < length target.outputs
       → WritesAll (sheet_files target sheet k) (rack_at racks k) (rack_at racks' k))
@@ -63,16 +69,16 @@ pub data Carries (source : Sources) (target : Targets) (trays trays' : List Tray
       → Carries source target trays trays' racks racks' result
   changed : (sheet : PageParts) (plate : ℕ) → result ≡ Err (Changed plate)
       → IsMadeSheet source trays sheet → HasChanged source plate trays trays'
+      → (racks' ≡ racks) ⊎ AsksAllTwice source trays trays'
       → HoldParts target (trapped_planes sheet) racks racks'
       → Carries source target trays trays' racks racks' result
   unread_again : (sheet : PageParts) (plate : ℕ) → result ≡ Err (Common (Read (Some plate)))
       → IsMadeSheet source trays sheet → FailsAgain source plate trays trays'
+      → (racks' ≡ racks) ⊎ AsksAllTwice source trays trays'
       → HoldParts target (trapped_planes sheet) racks racks'
       → Carries source target trays trays' racks racks' result
   unwritten : (sheet : PageParts) (file : Option ℕ) → result ≡ Err (Common (Write file))
-      → IsMadeSheet source trays sheet
-      → ((k : ℕ) → k < length source.inputs
-      → AsksAll source trays trays' k ⊎ AsksTwice source trays trays' k)
+      → IsMadeSheet source trays sheet → AsksAllTwice source trays trays'
       → ((k : ℕ) → IsCalm trays trays' k)
       → BreaksSheet target (trapped_planes sheet) (sheet_report sheet) file racks racks'
       → Carries source target trays trays' racks racks' result

@@ -1,5 +1,5 @@
 ghost use Rattle.std.specs.Prelude.{◌≤◌, length, map, string_bytes};
-ghost use Rattle.trapsheet_cli.specs.Clauses.{Completeness, FaultLine, LeavesFiles, Locality, ReadFault, RefusedInput, Success, Usage, WriteFault};
+ghost use Rattle.trapsheet_cli.specs.Clauses.{Completeness, FaultLine, LeavesFiles, Locality, ReadFault, RefusedInput, Reopened, Success, Usage, WriteFault};
 ghost use Rattle.trapsheet_cli.specs.Endings.{EndsWords, RefusesWords, TellsUsage};
 ghost use Rattle.page_model.specs.Limits.{most_plates};
 
@@ -56,6 +56,8 @@ pub fn trapsheet_main<H: Threads + Sync, T: Tray + Send, R: Rack + Send>(
         (map R.state racks.old) (map R.state racks.new) result }
     ensures memory { LeavesFiles (map R.state racks.old) (map R.state racks.new) result }
     ensures fault_line { FaultLine (map R.state racks.old) (map R.state racks.new) result }
+    ensures reopened { Reopened (map string_bytes words.now) (map T.state trays.old)
+        (map T.state trays.new) (map R.state racks.old) (map R.state racks.new) }
     ensures locality { Locality (map string_bytes words.now) (map T.state trays.old) }
     ensures completeness { Completeness (map string_bytes words.now) (map T.state trays.old)
         (map T.state trays.new) (map R.state racks.old) (map R.state racks.new) result }

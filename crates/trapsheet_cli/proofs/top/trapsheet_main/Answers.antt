@@ -2,7 +2,7 @@
 use Rattle.std.proofs.Common.{map, string_bytes, Global}
 use Rattle.sheet_gather.specs.Inputs.{held_by}
 use Rattle.trapsheet_cli.specs.Files.{sources_of}
-use Rattle.trapsheet_cli.proofs.ClauseLemmas.{completeness, fault_line, leaves_files, read_fault, refused_input, success, usage, write_fault}
+use Rattle.trapsheet_cli.proofs.ClauseLemmas.{completeness, fault_line, leaves_files, read_fault, refused_input, reopened, success, usage, write_fault}
 use Rattle.trapsheet_cli.proofs.LocalityLemmas.{changes_near_edges}
 use Rattle.trapsheet_cli.proofs.top.trapsheet_main.Goals as goal
 
@@ -26,6 +26,9 @@ returns-clause-memory g c = leaves_files (map (string_bytes {Z = Global}) c.args
 
 pub returns-clause-fault_line : goal.returns-clause-fault_line
 returns-clause-fault_line g c = fault_line (map (string_bytes {Z = Global}) c.args.words.now) (map g.T.Tray.state c.args.trays.now) (map g.T.Tray.state c.trapsheet_within.new.trays) (map g.R.Rack.state c.args.racks.now) (map g.R.Rack.state c.trapsheet_within.new.racks) c.trapsheet_within.result c.trapsheet_within.ensures
+
+pub returns-clause-reopened : goal.returns-clause-reopened
+returns-clause-reopened g c = reopened (map (string_bytes {Z = Global}) c.args.words.now) (map g.T.Tray.state c.args.trays.now) (map g.T.Tray.state c.trapsheet_within.new.trays) (map g.R.Rack.state c.args.racks.now) (map g.R.Rack.state c.trapsheet_within.new.racks) c.trapsheet_within.result c.trapsheet_within.ensures
 
 pub returns-clause-completeness : goal.returns-clause-completeness
 returns-clause-completeness g c = completeness (map (string_bytes {Z = Global}) c.args.words.now) (map g.T.Tray.state c.args.trays.now) (map g.T.Tray.state c.trapsheet_within.new.trays) (map g.R.Rack.state c.args.racks.now) (map g.R.Rack.state c.trapsheet_within.new.racks) c.trapsheet_within.result c.one_sheet_verdict.ensures c.trapsheet_within.ensures
