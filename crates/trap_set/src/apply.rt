@@ -12,20 +12,16 @@ use crate::planes::put_run;
 use crate::steps::{Next, Place, read_next, read_page, read_title};
 use outside::tray::{Failed, Tray};
 use page_model::parts::{Plane, PlaneList};
-use thiserror::Error;
 
 /// Why a set was not applied, or not to its end.
-#[derive(Clone, Copy, Debug, Drop, Error)]
+#[derive(Clone, Copy, Drop)]
 pub enum SetRefusal {
     /// The first bad line, counted from 1: with it the text no longer begins a set. A missing line is a bad one, and so
     /// is one that has no end or more than 160 bytes.
-    #[error("line {0} is no line of a set")]
     BadLine(u32),
     /// The set is for another number of planes, or for planes of other sides or another maxval.
-    #[error("the set is for other planes")]
     Differs,
     /// A call of the tray failed.
-    #[error("the file could not be read")]
     ReadFault,
 }
 
