@@ -7,7 +7,7 @@
 #     sbatch --array=1-$(press/plates --count IN.pdf) press/farm.sbatch IN.pdf OUT [option of press/all ...]
 #
 # A page that failed is done again by its number, --array=3,17, and the proof sheet of all pages is made after them by press/proof.
-# The commands are looked for in the folder that the variable PRESS names; where it is not set, in the folder "press" of the one that
+# The commands are looked for in the folder that the variable PRESS names; otherwise in the folder "press" of the one that
 # sbatch was called in; or else the installed command "press" is taken. IN.pdf, OUT and the commands must have the same paths on all
 # nodes.
 #

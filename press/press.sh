@@ -20,5 +20,5 @@ help() {
   sed -n '/^STATUSES = /,/^"""/{s/^STATUSES = """//;/^"""/d;p}' "$here/../python/press/errors.py"
 }
 
-# Prints the project's version, which stands beside the folder press.
+# Prints the project's version, which is next to the folder press.
 version() { printf '%s (trap) %s\n' "$name" "$(cat "$here/../VERSION")"; }

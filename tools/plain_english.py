@@ -4,8 +4,10 @@
 
 Text in backquotes, code blocks and lines with the comment "style: keep" are left out. The status is 1 if there is a hit."""
 import argparse
+import io
 import re
 import sys
+import tokenize
 from collections.abc import Iterator
 from dataclasses import dataclass
 from pathlib import Path
@@ -13,6 +15,8 @@ from pathlib import Path
 TOP = Path(__file__).resolve().parent.parent
 PATTERNS = ("*.md", "docs/*.md", "*/README.md", "examples/*/README.md", "man/*", "press/*", "python/press/*.py",
             "python/press/desk/*.py", "python/trapping/*.py", "library/trap.h")
+# Tests, which users do not read.
+TESTS = ("test.sh", "try.sh")
 # What is written, and what to write instead.
 RULES = [(re.compile(pattern), better) for pattern, better in (
     (r"\bstands?\b(?! for| alone| out)", "is, has"),
@@ -60,12 +64,23 @@ class Hit:
     text: str
 
 
+def python_texts(text: str) -> Iterator[tuple[int, str]]:
+    """The lines of the strings and comments of a Python program."""
+    for token in tokenize.generate_tokens(io.StringIO(text).readline):
+        if token.type in (tokenize.STRING, tokenize.COMMENT):
+            yield from enumerate(token.string.split("\n"), token.start[0])
+
+
 def prose(path: Path) -> Iterator[tuple[int, str]]:
     """The numbered lines of a file that a reader sees as text, without code."""
     try:
-        lines = path.read_text(encoding="utf-8").split("\n")
+        text = path.read_text(encoding="utf-8")
     except (UnicodeDecodeError, IsADirectoryError):
         return
+    if path.suffix == ".py" or text.startswith("#!/usr/bin/env python3"):
+        yield from ((number, line) for number, line in python_texts(text) if "style: keep" not in line)
+        return
+    lines = text.split("\n")
     fenced = False
     for number, line in enumerate(lines, 1):
         if line.lstrip().startswith("```"):
@@ -77,7 +92,7 @@ def prose(path: Path) -> Iterator[tuple[int, str]]:
 def default_files() -> list[Path]:
     """The files that users read."""
     found = {path: None for pattern in PATTERNS for path in sorted(TOP.glob(pattern)) if path.is_file()}
-    return list(found)
+    return [path for path in found if path.name not in TESTS]
 
 
 def hits(paths: list[Path]) -> Iterator[Hit]:

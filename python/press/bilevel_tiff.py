@@ -53,7 +53,7 @@ def entries_of(image: Bilevel, places: list[int], sizes: list[int], big: bool) -
 
 
 def directory(entries: list[Entry], start: int, big: bool) -> bytes:
-    """The directory that stands at `start`, with its values after it."""
+    """The directory that is at `start`, with its values after it."""
     room, head, pointer = (8, "<HHQ", "<Q") if big else (4, "<HHI", "<I")
     size = (8 if big else 2) + len(entries) * (struct.calcsize(head) + room) + struct.calcsize(pointer)
     lines, values = b"", b""

@@ -22,14 +22,14 @@ LOG = logging.getLogger("press")
 
 
 def version() -> str:
-    """The project's version, which stands beside the folder of the commands."""
+    """The project's version, which is beside the folder of the commands."""
     with open(os.path.join(TOP, "VERSION"), encoding="ascii") as file:
         return file.read().strip()
 
 
 class Parser(argparse.ArgumentParser):
     """The options of a command. Its text is the command's docstring: lines of usage, paragraphs, and a line
-    {options} where the list of options stands. Operands may stand anywhere; what follows -- is an operand."""
+    {options} where the list of options is. Operands may be anywhere; what follows -- is an operand."""
 
     def __init__(self, text: str) -> None:
         super().__init__(add_help=False, allow_abbrev=False, argument_default=None)

@@ -158,7 +158,7 @@ def run_on(page: PageFolder, name: str, words: list[str], started: Started | Non
 
 def trap(page: PageFolder, settings: Settings, started: Started | None = None) -> Trapped:
     """Traps a page: trapped plates, report, report.json and, by settings.check, the numbers of presscheck come
-    into its folder "trapped", in place of what stood there. `started` gets the trapping program's process."""
+    into its folder "trapped", in place of what was there. `started` gets the trapping program's process."""
     if not os.path.isfile(page.file(JOB)):
         raise PressError(Status.INPUT, "No such file", page.file(JOB))
     name = trapper_of(page)

@@ -1,5 +1,5 @@
 # SPDX-License-Identifier: Apache-2.0
-"""What happens in a run, as its observer is told it. Pages count from 1, seconds are wall time."""
+"""What happens in a run, as its observer receives it. Pages count from 1, seconds are wall time."""
 from collections.abc import Callable
 from dataclasses import dataclass
 from typing import Union
@@ -54,7 +54,7 @@ class Warned:
 
 @dataclass(frozen=True)
 class PageDone:
-    """A page stands in OUT: how many plates it has, how many samples changed, and the bytes of disk that it takes."""
+    """A page is in OUT: how many plates it has, how many samples changed, and the bytes of disk that it takes."""
 
     page: int
     plates: int

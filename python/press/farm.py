@@ -181,7 +181,7 @@ def logged_done(out: str, pages: Sequence[int]) -> set[int]:
 
 
 def missing(out: str, pages: Collection[int]) -> set[int]:
-    """The pages that do not stand in OUT."""
+    """The pages that are not in OUT."""
     there = set(os.listdir(out))
     return {page for page in pages if f"page-{page:03d}" not in there}
 

@@ -1,5 +1,5 @@
 # SPDX-License-Identifier: Apache-2.0
-"""Files and folders that stand whole under their names or not at all; locks; what killed runs left; room on the
+"""Files and folders that are whole under their names or not at all; locks; what killed runs left; room on the
 disk."""
 import contextlib
 import errno
@@ -83,7 +83,7 @@ def table_lines(path: str) -> list[str]:
 
 
 def beside(path: str, *ends: str) -> list[str]:
-    """Those of the files NAME.END that stand beside NAME.pdf."""
+    """Those of the files NAME.END that are beside NAME.pdf."""
     stem = os.path.splitext(path)[0]
     return [f"{stem}.{end}" for end in ends if os.path.isfile(f"{stem}.{end}")]
 
@@ -247,7 +247,7 @@ def need_room(folder: str, what: str) -> None:
 
 
 def free_room(place: str) -> int:
-    """The bytes that are free where a path is or will be."""
+    """The free bytes at the place of a path."""
     while not os.path.isdir(place):
         place = os.path.dirname(os.path.abspath(place))
     found = os.statvfs(place)

@@ -1,5 +1,5 @@
 # SPDX-License-Identifier: Apache-2.0
-"""The folder of a page, and the folder OUT of a run: the names of their files, and what stands in them."""
+"""The folder of a page, and the folder OUT of a run: the names of their files, and what is in them."""
 import dataclasses
 import json
 import os
@@ -65,7 +65,7 @@ class PageFolder:
 
     @property
     def inked(self) -> tuple[Ink, ...]:
-        """The inks whose plates have ink; the first one where none has."""
+        """The inks whose plates have ink; the first one if none has."""
         return tuple(ink for ink in self.inks if ink.has_ink) or self.inks[:1]
 
     @property
@@ -192,7 +192,7 @@ class JobFolder:
 
 
 def read_text(*path: str) -> str:
-    """A text file, or nothing where it is not there."""
+    """A text file, or nothing if there is none."""
     try:
         with open(os.path.join(*path), encoding="utf-8", errors="replace") as file:
             return file.read()

@@ -2,9 +2,9 @@
 """Where a press out of register still prints lighter than anything that lies near: what a trap is there to close.
 
 Each plate may be off by a radius of samples in both directions, each its own way. At a sample the worst that can come
-of it is that each plate has its least ink within the radius. It counts as bared if the density of that is less than
+of it is that each plate has its least ink within the radius. It counts as a gap if the density of that is less than
 that of every sample within the radius in register, by more than a margin: a white or a light seam between two
-colours. The edge of a shape on bare paper is none, since paper lies beside it in register too.
+colours. The edge of a shape on unprinted paper is not a gap, since paper lies next to it in register too.
 """
 from collections.abc import Callable, Sequence
 from typing import Any
@@ -31,7 +31,7 @@ def spread(plane: Array, radius: int, choose: Callable[..., Any]) -> Array:
 
 
 def bared(planes: Sequence[Array], densities: Sequence[float], radius: int) -> Array:
-    """Where samples are bared: an array of bool, rows × columns. The planes have 8 bits, 0 is full ink."""
+    """Where gaps open: an array of bool, rows × columns. The planes have 8 bits, 0 is full ink."""
     height, width = planes[0].shape
     out: Array = numpy.zeros((height, width), dtype=bool)
     for top in range(0, height, BAND_ROWS):

@@ -142,7 +142,7 @@ def moved_to_page(rects: Sequence[Rect], info: PageInfo, box: str) -> list[Rect]
 
 
 def image_places(images: Sequence[Image], info: PageInfo, box: str, margin: float) -> Places:
-    """The places of a page's images where no trap comes, drawn in by a margin in points."""
+    """The places of a page's images without traps, drawn in by a margin in points."""
     places, bounds = places_of(images, margin)
     largest = sorted(moved_to_page(places, info, box), key=lambda one: -one.area)
     return Places(largest[:MOST_RECTS], moved_to_page(bounds, info, box))

@@ -199,7 +199,7 @@ def fits(text: str, pattern: str) -> bool:
 
 class Shelf:
     """A table of the library: patterns of names, each with a density, a kind and its source's key. The sources
-    stand in the comments at its head."""
+    are in the comments at its head."""
 
     def __init__(self, name: str) -> None:
         self.entries = []
@@ -246,7 +246,7 @@ def guess(look: Look) -> str:
 
 
 def open_book(settings: Settings, path: str) -> "InkBook":
-    """What is known of inks for a file, with the table of --inks, or the one beside it."""
+    """What is known of inks for a file, with the table of --inks, or the one next to it."""
     return InkBook(settings, settings.inks or next(iter(beside(path, "inks")), None))
 
 

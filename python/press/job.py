@@ -49,7 +49,7 @@ class Part(NamedTuple):
 
 @dataclass(frozen=True)
 class Job:
-    """A job's bytes, and where the statements of files stand in it."""
+    """A job's bytes, and where the statements of files are in it."""
 
     text: bytes
     parts: tuple[Part, ...]
@@ -228,7 +228,7 @@ def words_of(text: bytes) -> Iterator[Token]:
 
 
 def value_of(words: Iterator[Token], word: Token, depth: int = 0) -> Node:
-    """The value that begins with a word. A bracket that is never closed ends with the job; one that stands
+    """The value that begins with a word. A bracket that is never closed ends with the job; one that is
     deeper than a job may have it is a word."""
     if word.text not in ("<<", "[") or depth == MOST_DEPTH:
         return word
@@ -290,7 +290,7 @@ def line_at(text: bytes, at: int) -> int:
 
 
 def file_place(at: int, parts: Sequence[Part]) -> tuple[str, int]:
-    """The file and the line that an offset of a job stands in. An operator at the job's end that lacks or has
+    """The file and the line that an offset of a job is in. An operator at the job's end that lacks or has
     too much belongs to the last file."""
     path, start, text = ([part for part in parts if part.start <= at] or parts[:1])[-1]
     return path, line_at(text, min(max(at - start, 0), max(len(text.rstrip()) - 1, 0)))

@@ -81,7 +81,7 @@ CONSTANTS: Mapping[bytes, Value] = {b"true": True, b"false": False, b"null": Non
 
 @dataclass(frozen=True)
 class Statement:
-    """An operator, and where its statement stands: from its first operand to the operator's last byte."""
+    """An operator, and where its statement is: from its first operand to the operator's last byte."""
 
     operator: str
     start: int

@@ -1,5 +1,5 @@
 # SPDX-License-Identifier: Apache-2.0
-"""A page made into a folder of its own: from a PDF, or from the separations of another RIP."""
+"""A page written to a folder of its own: from a PDF, or from the separations of another RIP."""
 import os
 import shutil
 from collections.abc import Iterable, Iterator, Sequence

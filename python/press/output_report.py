@@ -20,7 +20,7 @@ ROWS = 1024
 
 @contextlib.contextmanager
 def full_disk_refused(folder: str, what: str) -> Iterator[None]:
-    """Gives the system's own reason where a library says of a full disk something else."""
+    """Gives the system's own reason if a library says of a full disk something else."""
     try:
         yield
     except (OSError, RuntimeError):

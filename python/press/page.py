@@ -77,7 +77,7 @@ def edits_of(settings: Settings, book: InkBook) -> InkEdits:
 
 
 def layout_of(page: Page, settings: Settings) -> Layout:
-    """What stands in the page's job before showpage: what the owner sets, and the press room's own zones."""
+    """What is in the page's job before showpage: what the owner sets, and the press room's own zones."""
     own = job.own_statements(settings, page.source.path, page.number)
     settings = settings.but(pairs=pairs_file(settings, page.source.path))
     return lay_out(own, page.info, page.trace, page.rendering.plates, page.inks, settings)
@@ -99,7 +99,7 @@ def write_page(page: Page, settings: Settings, folder: str, layout: Layout | Non
 
 
 def write_folder(folder: str, source: PageSource, inks: tuple[Ink, ...], layout: Layout) -> PageFolder:
-    """Writes the job, the layout and the table of a page whose plates stand in the folder."""
+    """Writes the job, the layout and the table of a page whose plates are in the folder."""
     with open(os.path.join(folder, JOB), "wb") as file:
         file.write(job.write_job(source, inks, layout.statements).text)
     layout.write(os.path.join(folder, ZONES))

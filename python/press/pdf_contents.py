@@ -1,5 +1,5 @@
 # SPDX-License-Identifier: Apache-2.0
-"""The contents of a PDF page: what they leave open at their end, and a page whose contents stand apart, in a form of
+"""The contents of a PDF page: what they leave open at their end, and a page whose contents are separate, in a form of
 their own."""
 import copy
 import zlib

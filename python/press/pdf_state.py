@@ -164,7 +164,7 @@ def keep_form(pdf: pikepdf.Pdf, form: Any, gone: list[Any]) -> None:
 # What the file says afterwards
 
 def mark_trapped(pdf: pikepdf.Pdf, whole: bool, pages: list[int]) -> None:
-    """Writes whether all pages are trapped into Info and into the XMP metadata, and what stood there before into an
+    """Writes whether all pages are trapped into Info and into the XMP metadata, and what was there before into an
     entry of ours."""
     record = Dictionary(Pages=Array(pages))
     for key, word in (("/Info", trapped_word(pdf)), ("/Metadata", metadata_word(pdf))):

@@ -32,7 +32,7 @@ SMALL_SAMPLES, SMALL_DPI, LEAST_DPI = 500_000, 72, 10
 # page and for a sample; bytes a sample in trap's table; and of trapsheet bytes for each sample of a strip.
 SECONDS_A_PAGE, SECONDS_A_SAMPLE, TABLE_BYTES, STRIP_BYTES = 2.5, 1e-7, 12, 15
 STRIP_ROWS, LEAST_STRIP_ROWS, STRIP_SAMPLES = 128, 32, 67_108_864
-# From which tint on a sample has ink, and below which it has none, where one ink knocks out others: full ink is 0.
+# From which tint on a sample has ink, and below which it has none, if one ink knocks out others: full ink is 0.
 MUCH, LITTLE = 127, 250
 KNOCK_OUT_SAMPLES, BAND_ROWS = 3, 256
 USUAL_STEP = 0.25
@@ -59,7 +59,7 @@ class Needs:
 
 @dataclass(frozen=True)
 class PageReport:
-    """What was found in a page that is rendered, and what it takes; None where that is not known."""
+    """What was found in a page that is rendered, and what it takes; None if that is not known."""
 
     findings: tuple[Finding, ...]
     needs: Needs | None = None
@@ -241,7 +241,7 @@ def job_findings(written: job.Job, inks: Sequence[Ink], page: int | None) -> Ite
 
 
 def stranger_findings(source: Source, book: InkBook, pages: Sequence[int]) -> Iterator[Finding]:
-    """Lines of the table, and words of the command line, that fit no ink of any page."""
+    """Lines of the table, and options, that fit no ink of any page."""
     for page in pages:
         info = source.page(page)
         colorants = [name.encode() for name in PROCESS] + list(info.spots if info else ())
@@ -276,7 +276,7 @@ def check_small(source: Source, number: int, settings: Settings, book: InkBook, 
 
 def check_page(page: Page, settings: Settings, book: InkBook, place: str | None = None) -> PageReport:
     """The findings of a page that is rendered, at whatever resolution, and what it takes at the settings' one.
-    `place` is where it will stand, or None. Faults and warnings do not stop the checks that follow."""
+    `place` is where it will be, or None. Faults and warnings do not stop the checks that follow."""
     found = list(ghostscript_findings(page))
     if page.info is None:
         return PageReport(tuple(found))
@@ -345,7 +345,7 @@ def twin_findings(page: Page) -> Iterator[Finding]:
 
 def knock_out_finding(ink: Ink, page: int) -> Finding:
     """That a technical ink knocks out what lies under it."""
-    # An owner who gave the kind knows the ink, a foil on bare paper say.
+    # An owner who gave the kind knows the ink, a foil on unprinted paper say.
     level = NOTE if ink.kind_from.rank in ("told", "house") else WARNING
     meaning = "and is trapped as any other ink" if counts(ink.kind) else "and the hole's edge is not trapped"
     return Finding("knock-out", level, page, f"{readable(ink.colorant)} is a technical ink by its name or kind, and "

@@ -21,7 +21,7 @@ def complain(line: str) -> None:
 
 
 class RunLines:
-    """An observer that prints what a run is at: each finding once, and not once a page. `emit` takes a line."""
+    """An observer that prints the progress of a run: each finding once, and not once a page. `emit` takes a line."""
 
     def __init__(self, path: str, quiet: bool = False, emit: Callable[[str], None] = complain) -> None:
         self.path, self.quiet, self.emit = path, quiet, emit
@@ -42,7 +42,7 @@ class RunLines:
             self.warn(event.command, event.text)
 
     def tell(self, text: str) -> None:
-        """A line of what the run is at."""
+        """A line of the progress of the run."""
         if not self.quiet:
             self.emit(clean(f"press-all: {self.path}: {text}"))
 
@@ -162,7 +162,7 @@ class FarmLines:
             complain(clean(f"press-farm: {self.path}: {self.text()}"))
 
     def work(self, line: str) -> None:
-        """A line of a page that is at work: what it is at; or a warning, which is printed once and not once a page."""
+        """A line of a page that is at work: its progress; or a warning, which is printed once and not once a page."""
         found = re.search(r": page (\d+) of \d+: (.*)$", line)
         if found:
             self.at_work[int(found.group(1))] = found.group(2)

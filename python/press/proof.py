@@ -68,7 +68,7 @@ def write_part(folder: str) -> None:
 
 
 def part_of_page(folder: str) -> str:
-    """A page's part: the one that stands there and is not older than the traps, or a new one."""
+    """A page's part: the one that is there and is not older than the traps, or a new one."""
     path, report = os.path.join(folder, PART), os.path.join(folder, TRAPPED, REPORT)
     if os.path.isfile(path) and os.path.isfile(report) and os.path.getmtime(path) >= os.path.getmtime(report):
         return read_text(path)
@@ -121,7 +121,7 @@ class Sheet:
         return before, after, traps, bare
 
     def details(self) -> list[Part]:
-        """The parts with most traps, and those with most that is still bared, as rectangles that do not overlap."""
+        """The parts with most traps, and those with most gaps left, as rectangles that do not overlap."""
         found: list[Part] = []
         for where, most in ((self.painter.changed, BY_TRAPS), (self.bared_after, BY_BARED)):
             counts = counted_in_grid(where)
@@ -174,7 +174,7 @@ def image(picture: Array, text: str) -> str:
 
 
 def table(heads: Sequence[str], rows: Iterable[Sequence[str | int]]) -> str:
-    """A table; numbers stand on the right."""
+    """A table; numbers are on the right."""
     lines = ["<table><tr>" + "".join(f"<th>{escaped(head)}</th>" for head in heads) + "</tr>"]
     for row in rows:
         cells = "".join(f'<td class="number">{one:,}</td>' if isinstance(one, int) else f"<td>{one}</td>"
@@ -220,7 +220,7 @@ def page_text(page: PageFolder) -> str:
 
 
 def add_to_json(sheet: Sheet) -> None:
-    """Adds to report.json how many samples misregistration bares."""
+    """Adds to report.json how many pixels of gaps misregistration opens."""
     path = sheet.page.file(TRAPPED, JSON)
     text = json.loads(read_text(path) or "{}")
     text["misregister"] = {"radius": sheet.radius, "bared_before": int(sheet.bared_before.sum()),
@@ -250,7 +250,7 @@ def register_text(sheet: Sheet) -> str:
     most, wide = int(sheet.width), max(LEAST_SHIFT, 3 * int(sheet.width))
     names = "".join(f'<option value="{at}">{escaped(readable(ink.colorant))} alone</option>'
                     for at, ink in enumerate(page.inks))
-    # A plate that is moved bares what lies beside the part, and no border of it.
+    # A plate that is moved opens gaps beside the part, and not at its border.
     data = {"lights": sheet.painter.lights, "margin": wide, "parts": [sheet.plate_parts(part, wide) for part in parts]}
     figures = "".join(f"<figure>{canvas(one)} {canvas(one)}<figcaption>{one[2]} by {one[3]} samples at {one[0]},"
                       f"{one[1]}: before on the left, after on the right</figcaption></figure>" for one in parts)
@@ -270,7 +270,7 @@ def canvas(part: Part) -> str:
 
 
 def map_text(sheet: Sheet, picture: Array) -> str:
-    """The map of what misregistration still bares."""
+    """The map of the gaps that misregistration still opens."""
     before, after = (int(where.sum()) for where in (sheet.bared_before, sheet.bared_after))
     radius = f"{sheet.radius} sample" + ("" if sheet.radius == 1 else "s")
     # Two plates that are off each its own way part by twice as much.

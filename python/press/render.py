@@ -32,7 +32,7 @@ class Rendering:
 
     `separations` are the colorants in the order of the plates: the process inks, then the spots by their names.
     `plates` are mapped from files of the scratch folder. `repairs` are the faults of the PDF that Ghostscript
-    mended, `fonts` those that the PDF lacks, each with the file that stands in its place.
+    mended, `fonts` those that the PDF lacks, each with the file that is in its place.
     """
 
     page: int
@@ -122,7 +122,7 @@ def repairs_in(done: "subprocess.CompletedProcess[bytes]") -> tuple[str, ...]:
 
 
 def fonts_in(done: "subprocess.CompletedProcess[bytes]") -> tuple[tuple[str, str], ...]:
-    """The fonts that the PDF lacks, each with the file that stands in its place."""
+    """The fonts that the PDF lacks, each with the file that is in its place."""
     found = sorted({(font or other, taken) for font, other, taken in
                     LOADED.findall(done.stdout.decode("utf-8", "replace"))})
     return tuple((font, taken) for font, taken in found if not STANDARD_FONT.fullmatch(font))

@@ -164,7 +164,7 @@ class PageWork:
 
     def make_part(self, made: PageFolder) -> None:
         """What the page gives to the proof sheet. If it cannot be drawn, of a page that is too large for this
-        machine say, the plates stand."""
+        machine say, the plates are kept."""
         try:
             with self.step("proof", "press-proof"):
                 proof.write_part(made.path)
@@ -185,7 +185,7 @@ class PageWork:
             file.writelines(lines)
 
     def do(self) -> PageDone | PageFailed:
-        """Does the page: its folder stands in OUT whole, or what was made of it under another name, with the
+        """Does the page: its folder is in OUT whole, or what was made of it under another name, with the
         line that says why."""
         start, final = time.monotonic(), self.job.page(self.number)
         with folder_beside(self.job.path, inside=True) as made:
@@ -321,7 +321,7 @@ def check_file(source: Source, settings: Settings, book: InkBook, pages: Sequenc
 def run(path: str, out: str, settings: Settings = Settings(), pages: Sequence[int] = (),
         observer: Observer = silent) -> RunResult:
     """Goes the whole way for the pages of a file, all or those that are asked for, counted from 1. Each page
-    that is done stands in OUT/page-001 and so on. Refuses a file that cannot be read; a page that fails is in
+    that is done is in OUT/page-001 and so on. Refuses a file that cannot be read; a page that fails is in
     the result."""
     head_of(path)
     tools.program("trap")
@@ -364,7 +364,7 @@ def make_pdf(source: Source, out: str, settings: Settings, observer: Observer) -
 
 
 def make_sheet(out: str, observer: Observer) -> None:
-    """The proof sheet of all pages. If it fails the pages stand."""
+    """The proof sheet of all pages. If it fails the pages are kept."""
     observer(StepStarted(None, "proof sheet"))
     try:
         proof.write_sheet_of_all(out)

@@ -84,7 +84,7 @@ class Value:
 @dataclass(frozen=True)
 class Parameter:
     """What options and presets may set: its key in the job, which is empty for a value that the job does not have, how
-    its text is read, and the comment beside it in the job."""
+    its text is read, and the comment next to it in the job."""
 
     key: str
     read: Callable[[str, str], float]

@@ -93,7 +93,7 @@ def is_empty(box: Box) -> bool:
 class Source:
     """A file that pages are made of.
 
-    `path` is its name as it was given, `folder` a scratch folder in which it stands as in.pdf, `count` the
+    `path` is its name as it was given, `folder` a scratch folder in which it is named in.pdf, `count` the
     number of its pages. A page whose PDF gives no size has no PageInfo.
     """
 
@@ -138,7 +138,7 @@ class Source:
 def ghostscript(folder: str, words: list[str], seconds: float | None,
                 place: str) -> "subprocess.CompletedProcess[bytes]":
     """Runs Ghostscript in a folder, for so many seconds at most. Its options from the environment, trapping of
-    its own among them, are kept out; its temporary files stand in the folder too."""
+    its own among them, are kept out; its temporary files are in the folder too."""
     outside = {name: value for name, value in os.environ.items() if name not in ("GS_OPTIONS", "GS_DEVICE")}
     outside["TMPDIR"] = os.path.abspath(folder)
     try:
@@ -164,7 +164,7 @@ def complaint(done: "subprocess.CompletedProcess[bytes]") -> str:
 # Opening
 
 def kind_of(head: bytes) -> str | None:
-    """What a file is by its first bytes: pdf, ps, or None. A driver's words for the printer may stand before
+    """What a file is by its first bytes: pdf, ps, or None. A driver's words for the printer may be before
     PostScript."""
     if head.lstrip(b"\x04\r\n\t ").startswith(b"%!") or head.startswith(WITH_PREVIEW):
         return "ps"
@@ -174,7 +174,7 @@ def kind_of(head: bytes) -> str | None:
 
 
 def open_source(path: str, folder: str, seconds: float | None = None) -> Source:
-    """Opens a file in a scratch folder, where it stands under a plain name, so that no character of its own
+    """Opens a file in a scratch folder, where it is under a plain name, so that no character of its own
     name means anything to Ghostscript. PostScript is converted."""
     kind = kind_of(head_of(path))
     if kind == "ps":
@@ -276,7 +276,7 @@ def page_info(pdf: pikepdf.Pdf, number: int) -> PageInfo | None:
 
 
 def inherited(page: Any, key: str) -> Any:
-    """An entry of a page, or of what it stands in."""
+    """An entry of a page, or of what it is in."""
     for _ in range(MOST_DEPTH * MOST_DEPTH):
         if not isinstance(page, pikepdf.Dictionary):
             return None
@@ -287,7 +287,7 @@ def inherited(page: Any, key: str) -> Any:
 
 
 def box_numbers(values: Any) -> Box | None:
-    """A box in order, where it has four numbers."""
+    """A box in order, if it has four numbers."""
     if not isinstance(values, pikepdf.Array) or len(values) != 4:
         return None
     left, lower, right, upper = (float(value) for value in values)

@@ -135,7 +135,7 @@ def write_page(writer: tifffile.TiffWriter, page: TiffPage, plates: Plates) -> N
 
 
 def strips(arrays: Sequence[Array], rows: int, maxval: int, writer: tifffile.TiffWriter) -> Iterator[bytes]:
-    """The strips of a page, each packed by itself: the channels of a sample side by side, full ink the greatest
+    """The strips of a page, each packed alone: the channels of a sample side by side, full ink the greatest
     value."""
     order = "u1" if maxval == MAXVALS[0] else "<u2"
     for start in range(0, arrays[0].shape[0], rows):
@@ -233,7 +233,7 @@ def read_separation(file: Separation, inverted: bool) -> Array:
             array: Array = numpy.asarray(image)
     except (OSError, UnidentifiedImageError, ValueError) as fault:
         raise PressError(Status.INPUT, f"libtiff cannot read it: {fault}", file.path) from fault
-    # Pillow turns gray files of 8 bits round by itself.
+    # Pillow turns gray files of 8 bits round alone.
     if inverted != (file.bits == 16 and file.polarity == WHITE_IS_ZERO):
         array = (1 << file.bits) - 1 - array
     return array

@@ -50,7 +50,7 @@ def tool(name: str) -> str:
 
 def stop(child: "subprocess.Popen[bytes]") -> None:
     """Stops a tool and waits for its end. The signal is sent again and again: GNU parallel ignores it until its
-    jobs have begun."""
+    jobs have started."""
     for stream in (child.stdin, child.stdout, child.stderr):
         if stream:
             # A tool that writes to a full pipe would not end.

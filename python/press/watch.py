@@ -92,7 +92,7 @@ def run_file(path: str, out: str, settings: Settings, told: str, end: Connection
 
 
 class Watch:
-    """The folder, and since when each file in it lies still; None where it is being written. `say` takes a line
+    """The folder, and since when each file in it lies still; None if it is being written. `say` takes a line
     of the log."""
 
     def __init__(self, folder: str, settle: int, settings: Settings, say: Callable[[str], None]) -> None:

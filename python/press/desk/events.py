@@ -8,7 +8,7 @@ from typing import Any
 from starlette.websockets import WebSocket, WebSocketDisconnect
 
 WAITING = 256
-"""Events that wait for one slow browser; after that the browser is told to ask for everything again."""
+"""Events that wait for one slow browser; after that the browser has to ask for everything again."""
 
 
 class Events:

@@ -1,7 +1,7 @@
 # SPDX-License-Identifier: Apache-2.0
 """What the editor changes in a job: marked blocks of its own, and nothing else.
 
-`page.job` is the state. Parameters and inks of the page stand in one block before the first path, zones in one
+`page.job` is the state. Parameters and inks of the page are in one block before the first path, zones in one
 block before the zones of images, and zones that go over images in one before `showpage`. All other bytes stay, so
 a job that was written by hand opens, and its comments survive. A block that somebody changed by hand is no block
 of the editor any more: it stays as it is.
@@ -158,7 +158,7 @@ def _showpage(text: bytes) -> int:
 
 
 def _line_start(text: bytes, at: int) -> int:
-    """The start of a statement's line, unless another statement stands before it on that line."""
+    """The start of a statement's line, unless another statement is before it on that line."""
     start = text.rfind(b"\n", 0, at) + 1
     return at if text[start:at].strip() else start
 

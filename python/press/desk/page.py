@@ -144,7 +144,7 @@ class DeskPage:
         self.version += 1
 
     def edits_of(self, said: Mapping[str, Any]) -> Edits:
-        """Edits as a browser sends them. Settings that the job has by itself are no edits."""
+        """Edits as a browser sends them. Settings that the job has anyway are not edits."""
         zones = said["zones"]
         if len(zones) > MOST_ZONES:
             raise BadRequest(f"there are {len(zones)} zones, and at most {MOST_ZONES} can be edited")

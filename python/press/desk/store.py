@@ -161,7 +161,7 @@ class Store:
         return lambda **event: self.events.tell(page=key, **event)
 
     def page_changed(self, key: str) -> None:
-        """Has a page trapped anew, and tells all browsers."""
+        """Has a page trapped anew, and informs all browsers."""
         opened = self._open(key)
         opened.run.changed()
         self.events.tell(kind="changed", page=key, version=opened.page.version)

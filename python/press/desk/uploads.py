@@ -1,5 +1,5 @@
 # SPDX-License-Identifier: Apache-2.0
-"""Files that browsers send: streamed to disk within limits, then made into trapped pages by `press/all` as a child.
+"""Files that browsers send: streamed to disk within limits, then turned into trapped pages by `press/all` as a child.
 
 The child has a limit of memory and of time, and dies with the server. A job's folder has the file as it came and
 the pages that `press/all` makes of it.
@@ -38,7 +38,7 @@ class TooMuch(ValueError):
 
 
 def plain_name(name: str) -> str:
-    """A file name that is safe in a folder, and still tells people which file it is."""
+    """A file name that is safe in a folder, and still shows people which file it is."""
     base = re.sub(r"[^\w .()+,-]", "_", name.replace("\\", "/").rpartition("/")[2]).strip(" .")
     stem, dot, ending = base.rpartition(".")
     if not dot:
@@ -48,7 +48,7 @@ def plain_name(name: str) -> str:
 
 @dataclass
 class Job:
-    """A file that is being made into pages, or failed to be."""
+    """A file that is being turned into pages, or failed to be."""
 
     key: str
     folder: Path
