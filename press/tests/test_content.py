@@ -120,6 +120,15 @@ def test_hairlines_and_coarse_images() -> None:
     assert not list(content.line_findings(fine, INFO, Settings(), 1))
 
 
+@pytest.mark.parametrize("size, colour, dpi, is_found", [
+    ("4", "1 .6 0 .2", 600, True), ("4", "1 .6 0 .2", 1200, False), ("9", "1 .6 0 .2", 600, False),
+    ("4", "0 0 0 1", 600, False), ("4", "0 0 0 0", 600, False)])
+def test_coloured_type_that_is_too_small_for_traps(size: str, colour: str, dpi: int, is_found: bool) -> None:
+    found = texts(content.type_findings(painted(*type_of("DeviceCMYK", colour, size)), INFO, Settings(dpi=dpi), 1))
+    assert ("thin-strokes" in found) == is_found
+    assert not is_found or "strokes of about 2.7 pixels at 600 dpi" in found["thin-strokes"]
+
+
 @pytest.mark.parametrize("size, tints, is_found", [("5", (60, 50, 40, 100), True), ("5", (0, 0, 0, 100), False),
                                                    ("9", (60, 50, 40, 100), False)])
 def test_small_type_reversed_out_of_several_inks(size: str, tints: tuple[int, ...], is_found: bool) -> None:

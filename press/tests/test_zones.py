@@ -6,7 +6,7 @@ from press.job import Statement
 from press.job_language import SCALE, read_job
 from press.rects import Rect
 from press.regions import disjoint, fewer, is_within, split_by
-from press.zones import BEYOND, Layer, Wanted, compose, spans_at
+from press.zones import BEYOND, Layer, Wanted, compose, grid_spans
 
 pytestmark = [pytest.mark.quick, pytest.mark.plain]
 SIZE = (200.0, 100.0)
@@ -201,5 +201,7 @@ def test_spans_follow_the_nonzero_rule():
     """A hole wound the other way is none of the zone; one wound the same way is."""
     outer = ((0, 0), (10, 0), (10, 10), (0, 10))
     hole = ((3, 3), (7, 3), (7, 7), (3, 7))
-    assert list(spans_at((outer, hole), 5)) == [(0, 10)]
-    assert list(spans_at((outer, tuple(reversed(hole))), 5)) == [(0, 3), (7, 10)]
+    rows = {row: spans for row, *spans in grid_spans((outer, hole), (20, 20))}
+    assert rows[50] == [0, 100] and len(rows) == 100
+    with_hole = [spans for row, *spans in grid_spans((outer, tuple(reversed(hole))), (20, 20)) if row == 50]
+    assert with_hole == [[0, 30], [70, 100]]

@@ -3,6 +3,7 @@
 for each subject; each finding names the place in millimetres from the lower left corner of the page as it is drawn."""
 from __future__ import annotations
 
+import math
 import re
 from collections.abc import Iterator, Sequence
 from dataclasses import dataclass
@@ -29,6 +30,8 @@ OF_PLATES = re.compile(r"DeviceCMYK|DeviceGray|Separation\(.*|DeviceN\(.*|None|"
 DARK_RGB, DARK_BLACK, OTHER_INK = 0.25, 0.5, 0.1
 # Type and lines below so many points are small; an ink that covers so much of the ground is one of it.
 SMALL_TYPE, HAIRLINE, GROUND_SHARE = 7.0, 0.25, 0.3
+# The stroke of a plain typeface, as a share of its size, and the pixels that a stroke needs for a trap.
+STEM, LEAST_PIXELS = 0.08, 3.0
 # An image of less dpi is coarse.
 COARSE = 150.0
 BAND_ROWS = 256
@@ -159,6 +162,28 @@ def line_findings(trace: Trace, info: PageInfo, settings: Settings, page: int) -
         resolution, box = trace.coarsest
         yield Finding("image-resolution", NOTE, page, f"an image has {resolution:.0f} pixels per inch "
                       f"{at(on_page(box, info, settings))}: {COARSE:.0f} is the least")
+
+
+def type_findings(trace: Trace, info: PageInfo, settings: Settings, page: int) -> Iterator[Finding]:
+    """The smallest coloured type, if its strokes are too thin for a trap at the settings' resolution."""
+    coloured = [paint for paint in trace.paints.values() if paint.size and not is_paper(paint)
+                and not is_plain_black(paint.space, paint.colour)]
+    smallest = min(coloured, key=lambda paint: paint.size, default=None)
+    if smallest is None:
+        return
+    stroke = STEM * smallest.size * settings.dpi / 72
+    if stroke < LEAST_PIXELS:
+        enough = math.ceil(LEAST_PIXELS * 72 / (STEM * smallest.size) / 100) * 100
+        yield Finding("thin-strokes", NOTE, page, f"coloured type of {smallest.size:.1f} pt "
+                      f"{at(on_page(smallest.box, info, settings))} has strokes of about {stroke:.1f} pixels at "
+                      f"{settings.dpi} dpi: if it is trapped, it loses its colour or keeps gaps ({enough} dpi would do)")
+
+
+def is_plain_black(space: str, colour: Sequence[float]) -> bool:
+    """Whether a colour is black ink alone."""
+    if space == "DeviceGray":
+        return True
+    return space == "DeviceCMYK" and not any(colour[:3])
 
 
 def reversed_findings(trace: Trace, plates: Plates, inks: Sequence[Ink], info: PageInfo, settings: Settings,

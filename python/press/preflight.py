@@ -435,6 +435,9 @@ def content_findings(page: Page, info: PageInfo, settings: Settings) -> Iterator
     if page.trace:
         yield from content.colour_findings(page.trace, info, settings, number)
         yield from content.line_findings(page.trace, info, settings, number)
+        if plates.resolution < settings.dpi:
+            # Rendered small, a page is measured by its type, and not by its strokes.
+            yield from content.type_findings(page.trace, info, settings, number)
         yield from content.reversed_findings(page.trace, plates, inks, info, settings, number)
 
 

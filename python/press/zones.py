@@ -7,6 +7,7 @@ images, without what is drawn above them.
 """
 from __future__ import annotations
 
+import math
 from collections.abc import Iterator, Mapping, Sequence
 from dataclasses import dataclass, field, fields, replace
 
@@ -303,30 +304,39 @@ class Composer:
 
     def untrapped(self, page: Sequence[Piece], layers: Sequence[Piece], images: Sequence[Piece]) -> dict[str, float]:
         """The share of the page in no zone, or in one that is not enabled, by the reason; measured on a grid."""
-        width, height = self.wanted.size
         rest = TRIM if self.wanted.within and page else OWNER
         zones = [(piece, LAYERS if piece in layers else OWNER) for piece in
                  [*page, *layers, *(owner_piece(zone) for zone in self.owner)]]
         zones += [(piece, IMAGES) for piece in images]
-        counts: dict[str, float] = {}
-        for row in range(GRID):
-            reasons = [rest] * GRID
-            y = (row + 0.5) * height / GRID
-            for piece, reason in zones:
-                for first, last in spans_at(piece.shape, y):
-                    start = max(0, min(GRID, round(first * GRID / width)))
-                    end = max(0, min(GRID, round(last * GRID / width)))
-                    reasons[start:end] = ["" if piece.parameters.enabled else reason] * (end - start)
-            for reason in reasons:
-                if reason:
-                    counts[reason] = counts.get(reason, 0) + 1 / GRID ** 2
-        return counts
+        rows = [[rest] * GRID for _ in range(GRID)]
+        for piece, reason in zones:
+            mark = "" if piece.parameters.enabled else reason
+            for row, first, last in grid_spans(piece.shape, self.wanted.size):
+                rows[row][first:last] = [mark] * (last - first)
+        found = [mark for row in rows for mark in row if mark]
+        return {reason: found.count(reason) / GRID ** 2 for reason in sorted(set(found))}
 
 
-def spans_at(shape: Shape, y: float) -> Iterator[tuple[float, float]]:
-    """The stretches of a horizontal line that lie within a shape, by the nonzero rule."""
-    crossings = sorted((x0 + (x1 - x0) * (y - y0) / (y1 - y0), 1 if y1 > y0 else -1) for points in shape
-                       for (x0, y0), (x1, y1) in zip(points, points[1:] + points[:1]) if (y0 <= y) != (y1 <= y))
+def grid_spans(shape: Shape, size: tuple[float, float]) -> Iterator[tuple[int, int, int]]:
+    """The points of a grid over the page that lie within a shape: row, first column, and the column beyond."""
+    width, height = size
+    crossings: dict[int, list[tuple[float, int]]] = {}
+    for points in shape:
+        for (x0, y0), (x1, y1) in zip(points, points[1:] + points[:1]):
+            low, high = (y0, y1) if y0 < y1 else (y1, y0)
+            first, end = (max(0, min(GRID, math.ceil(y * GRID / height - 0.5))) for y in (low, high))
+            for row in range(first, end):
+                y = (row + 0.5) * height / GRID
+                x = x0 + (x1 - x0) * (y - y0) / (y1 - y0)
+                crossings.setdefault(row, []).append((x, 1 if y1 > y0 else -1))
+    for row, found in crossings.items():
+        for start, last in wound(sorted(found)):
+            columns = [max(0, min(GRID, round(x * GRID / width))) for x in (start, last)]
+            yield row, columns[0], columns[1]
+
+
+def wound(crossings: Sequence[tuple[float, int]]) -> Iterator[tuple[float, float]]:
+    """The stretches of a line that lie within a shape, by the nonzero rule."""
     winding, start = 0, 0.0
     for x, way in crossings:
         if winding == 0:
