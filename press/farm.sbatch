@@ -14,6 +14,7 @@
 # Where PRESS_LOCAL names a folder on the node's own disk, the page is made there, and put into OUT when it is done: with
 # --tiff-only its plates then never go over the network.
 
+# SPDX-License-Identifier: Apache-2.0
 set -u
 name=farm.sbatch
 case ${1-} in -h | --help) sed -n '5,/^$/{s/^# \{0,1\}//;p}' "$0"; exit 0 ;; esac

@@ -1,3 +1,4 @@
+# SPDX-License-Identifier: Apache-2.0
 # What those of the press commands share that are written for the shell. It is read by them, with `here` being the folder press.
 # shellcheck shell=bash
 

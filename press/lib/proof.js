@@ -1,3 +1,4 @@
+/* SPDX-License-Identifier: Apache-2.0 */
 // The proof sheet's sliders. Nothing is fetched: all pictures stand in the page.
 "use strict";
 

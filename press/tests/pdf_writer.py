@@ -1,3 +1,4 @@
+# SPDX-License-Identifier: Apache-2.0
 """A small writer of PDF files for tests: objects by number, pages, and the table of places."""
 
 
