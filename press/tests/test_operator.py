@@ -63,9 +63,9 @@ def test_neighbours_spread_under_silver(room: Room, built: None) -> None:
 
 def test_inks_that_no_trap_closes_are_warned_of(room: Room) -> None:
     """As a silver that is taken for lighter than its neighbour."""
-    told = room.goes("check", INPUTS / "rl-card-mm.pdf", "--density", "PANTONE 877 C=0.58").out
+    told = room.goes("preflight", INPUTS / "rl-card-mm.pdf", "--density", "PANTONE 877 C=0.58").out
     assert re.search(r"warning: untrapped-inks: PANTONE 877 C and PANTONE 287 C meet along \d+ edges", told), told
-    assert "untrapped-inks" not in room.goes("check", INPUTS / "rl-card-mm.pdf").out
+    assert "untrapped-inks" not in room.goes("preflight", INPUTS / "rl-card-mm.pdf").out
 
 
 def test_white_spreads_under_colours(room: Room, built: None) -> None:
@@ -83,7 +83,7 @@ def test_layers_by_name(room: Room, built: None) -> None:
     options = "--layer", "Print=off", "--layer", "Screen only=off"
     room.goes("plates", INPUTS / "layers.pdf", "off", "--dpi", "200", *options)
     assert "/Enabled false" in (room / "off" / "page.job").read_text()
-    assert "no layer Pint paints" in room.goes("check", INPUTS / "layers.pdf", "--layer", "Pint=off").out
+    assert "no layer Pint paints" in room.goes("preflight", INPUTS / "layers.pdf", "--layer", "Pint=off").out
 
 
 def test_inks_are_merged_and_dropped(room: Room) -> None:

@@ -53,7 +53,7 @@ def test_parallel_that_does_not_listen(room: Room, built: None) -> None:
     room.rests()
 
 
-@pytest.mark.parametrize("command", ["plates", "check"])
+@pytest.mark.parametrize("command", ["plates", "preflight"])
 def test_time_that_runs_out(room: Room, command: str) -> None:
     """A Ghostscript that takes too long is stopped with its page."""
     room.sample("two.pdf")
