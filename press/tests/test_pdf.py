@@ -108,8 +108,9 @@ def test_cropped_pages(tmp_path: Path) -> None:
 @pytest.mark.parametrize("margin", [0, 3])
 @pytest.mark.parametrize("anchor", ["top", "bottom"])
 def test_margins_and_anchors(tmp_path: Path, margin: int, anchor: str) -> None:
-    """At the plates' resolution neither changes a byte."""
-    path = saved(joined([CASES["odd-270"], CASES["odd-375"], CASES["unit-odd-90"]]), tmp_path / "in.pdf")
+    """At the plates' resolution neither changes a byte. The last page is half a pixel higher than its plates."""
+    names = ("odd-270", "odd-375", "unit-odd-90", "offset-odd-270")
+    path = saved(joined(CASES[name] for name in names), tmp_path / "in.pdf")
     result = trapped(path, folders_of(path, 150), margin=margin, anchor=anchor)
     assert result.verified
     assert all((page.painted == page.changed) == (margin == 0) for page in result.pages)

@@ -10,6 +10,9 @@ from .errors import PressError, Status
 BOXES = {"media": "/MediaBox", "crop": "/CropBox", "bleed": "/BleedBox", "trim": "/TrimBox", "art": "/ArtBox"}
 ANCHORS = ("top", "bottom")
 DEEPEST_TREE = 64
+# By how many pixels Ghostscript's grid may be off, somewhat less than a half. A page that is a half more than whole
+# pixels cannot be exact in all renderers.
+MOST_SHIFT = 0.45
 LETTER = (0.0, 0.0, 612.0, 792.0)
 
 
@@ -105,6 +108,11 @@ def box_of_plates(page: pikepdf.Page, number: int, dpi: float, size: tuple[int, 
     return found[0]
 
 
+def odd_part(page: pikepdf.Page, box: str, dpi: float, height: int) -> float:
+    """By how many pixels the page as it is seen is higher than its plates."""
+    return size_in_pixels(page, box, dpi)[1] - height
+
+
 def grid_matrix(page: pikepdf.Page, box: str, dpi: float, height: int, anchor: str) -> list[float]:
     """The matrix from pixels, x to the right and y up from the page's lower edge, to the page's user space.
 
@@ -115,9 +123,9 @@ def grid_matrix(page: pikepdf.Page, box: str, dpi: float, height: int, anchor: s
     """
     sides = box_of(page, box)
     turn = rotation(page)
-    seen_height = sides.right - sides.left if turn % 180 else sides.upper - sides.lower
     step = 72 / (dpi * user_unit(page))
-    shift = seen_height - height * step if anchor == "top" else 0.0
+    odd = odd_part(page, box, dpi, height) if anchor == "top" else 0.0
+    shift = max(-MOST_SHIFT, min(MOST_SHIFT, odd)) * step
     corner = {0: (sides.left, sides.lower + shift), 90: (sides.right - shift, sides.lower),
               180: (sides.right, sides.upper - shift), 270: (sides.left + shift, sides.upper)}[turn]
     across = {0: (step, 0.0), 90: (0.0, step), 180: (-step, 0.0), 270: (0.0, -step)}[turn]

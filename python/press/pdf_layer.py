@@ -42,11 +42,11 @@ def image_object(pdf: pikepdf.Pdf, image: TileImage, space: Any) -> Any:
                            Filter=Name.FlateDecode, ColorSpace=colours, Mask=Array(list(image.key)))
 
 
-def image_words(name: str, image: TileImage, rows: int) -> str:
+def image_words(name: str, image: TileImage, paint: Paint) -> str:
     """What paints a tile's image on its place."""
     tile = image.tile
     return (f"q {tile.width - 2 * INSET:.2f} 0 0 {tile.height - 2 * INSET:.2f} {tile.x + INSET:.2f} "
-            f"{rows - tile.y - tile.height + INSET:.2f} cm /{name} Do Q")
+            f"{paint.size[1] - tile.y - tile.height + INSET:.2f} cm /{name} Do Q")
 
 
 def plain_state(transparency: bool) -> Any:
@@ -64,7 +64,7 @@ def traps_form(pdf: pikepdf.Pdf, images: Sequence[TileImage], inks: Sequence[Ink
     space, words, objects = device_n(pdf, inks), ["/Plain gs"], Dictionary()
     for at, image in enumerate(images, 1):
         objects[f"/T{at}"] = image_object(pdf, image, space)
-        words.append(image_words(f"T{at}", image, size[1]))
+        words.append(image_words(f"T{at}", image, paint))
     resources = Dictionary(ExtGState=Dictionary(Plain=plain_state(paint.transparency)), XObject=objects)
     form = deflated(pdf, "\n".join(words).encode(), Type=Name.XObject, Subtype=Name.Form, FormType=1,
                     BBox=[-1, -1, size[0] + 1, size[1] + 1], Resources=resources)
