@@ -243,7 +243,7 @@ def with_annotations() -> pikepdf.Pdf:
 
 def draw(path: Path, folder: Path, dpi: int, box: str, icc: Path | None = None) -> list[dict[bytes, Any]]:
     """The plates of each page by tiffsep, by each ink's name."""
-    profile = [f"-sOutputICCProfile={icc}", f"--permit-file-read={icc}"] if icc else []
+    profile = [f"-sOutputICCProfile={icc}", f"-sDefaultCMYKProfile={icc}", f"--permit-file-read={icc}"] if icc else []
     count = len(pikepdf.open(path).pages)
     with tempfile.TemporaryDirectory(dir=folder) as scratch:
         subprocess.run(["gs", "-q", "-dSAFER", "-dNOPAUSE", "-dBATCH", "-dPDFSTOPONERROR", "-sDEVICE=tiffsep",

@@ -94,7 +94,7 @@ def test_picture_by_a_profile(room: Room, composite: Path) -> None:
     """--icc draws another picture; a profile that is none of a press is refused."""
     room.goes("tiff", "--untrapped", "--name", "all", "two", "profiled", "--icc", CMYK_PROFILE)
     assert (room / "profiled/all.png").read_bytes() != composite.with_suffix(".png").read_bytes()
-    room.refused(4, rf"press-tiff: {RGB_PROFILE}: no profile of a press with four inks", "tiff", "--untrapped", "two", "new", "--icc", RGB_PROFILE)
+    room.refused(4, rf"press-tiff: {RGB_PROFILE}: no CMYK output profile: '.*sRGB.*' is of the class display and of RGB colours", "tiff", "--untrapped", "two", "new", "--icc", RGB_PROFILE)
 
 
 @pytest.fixture(name="separations")

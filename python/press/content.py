@@ -13,6 +13,7 @@ import numpy
 import pikepdf
 
 from .findings import NOTE, WARNING, Finding
+from .icc import read_profile
 from .images import moved_to_page
 from .inks import Ink
 from .names import readable
@@ -281,17 +282,20 @@ def intents_of(pdf: Any) -> list[str]:
 
 
 def intent_profile(path: str, out: str) -> bool:
-    """Writes the profile of a file's first output intent that has one; whether there is any."""
+    """Writes the profile of a file's first output intent for a press, else of the first one that has a profile;
+    whether there is any."""
     try:
         with pikepdf.open(path) as pdf:
-            for one in pdf.Root.get("/OutputIntents", []):
-                if "/DestOutputProfile" in one:
-                    with open(out, "wb") as file:
-                        file.write(one["/DestOutputProfile"].read_bytes())
-                    return True
+            found = [one["/DestOutputProfile"].read_bytes() for one in pdf.Root.get("/OutputIntents", [])
+                     if "/DestOutputProfile" in one]
     except UNREAD:
-        pass
-    return False
+        return False
+    if not found:
+        return False
+    profiles = ((data, read_profile(data)) for data in found)
+    with open(out, "wb") as file:
+        file.write(next((data for data, profile in profiles if profile and profile.is_of_press), found[0]))
+    return True
 
 
 def font_findings(path: str, page: int, known: Sequence[str] = ()) -> Iterator[Finding]:

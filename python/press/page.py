@@ -9,6 +9,7 @@ from .content import coverage_of, intent_profile
 from .errors import PressError, UsageError
 from .files import size_text
 from .folder import JOB, ZONES, PageFolder, PageSource, write_table
+from .icc import need_press_profile
 from .inkedits import InkEdits, edit_plates, pairs_of
 from .inks import Ink, InkBook
 from .layout import Layout, lay_out
@@ -47,6 +48,7 @@ def prepare(source: Source, number: int, settings: Settings, book: InkBook, scra
     info = source.page(number)
     profile = os.path.join(scratch, "intent.icc")
     if settings.output_intent and not settings.icc and intent_profile(source.pdf, profile):
+        need_press_profile(profile, f"{source.path}: the profile of its output intent")
         settings = settings.but(icc=profile)
     rendering = edit_plates(render(source, number, settings, scratch), edits_of(settings, book), scratch,
                             source.place(number))

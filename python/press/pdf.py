@@ -11,6 +11,7 @@ import pikepdf
 
 from .content import fonts_outside, intent_profile
 from .errors import PressError, Status
+from .icc import need_press_profile
 from .output_report import full_disk_refused
 from .pdf_grid import box_of_plates, grid_matrix, inherited
 from .pdf_layer import Paint, add_trap_network, layer_of, put_on_page, traps_form
@@ -186,6 +187,7 @@ def prove(path: str, result: PdfResult, settings: PdfSettings, shown: str) -> No
         profile = settings.icc
         if settings.output_intent and not profile and intent_profile(path, os.path.join(scratch, "intent.icc")):
             profile = os.path.join(scratch, "intent.icc")
+            need_press_profile(profile, f"{shown}: the profile of its output intent")
         different = verify(path, [expected_of(done, profile) for done in result.pages], os.path.dirname(path) or ".")
     if different is not None:
         raise PressError(Status.PDF, different.line(), f"{shown}: page {different.page}")

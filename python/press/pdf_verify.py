@@ -15,7 +15,7 @@ from .files import need_room
 from .names import readable
 from .pdf_tiles import Samples
 from .plates import release
-from .render import BOX_OPTIONS, colorant_in, link
+from .render import BOX_OPTIONS, colorant_in, link, profile_words
 from .source import complaint, ghostscript
 
 PAPER = 255
@@ -128,9 +128,7 @@ def render_again(path: str, folder: str, run: Sequence[Expected]) -> None:
              "-sCompression=none", f"-dFirstPage={first}", f"-dLastPage={last}", "-sOutputFile=page%06d.tif",
              *BOX_OPTIONS[grid.box]]
     link(path, folder, "in.pdf")
-    if grid.icc:
-        link(grid.icc, folder, "output.icc")
-        words += ["-sOutputICCProfile=output.icc", "--permit-file-read=output.icc"]
+    words += profile_words(grid.icc, folder)
     done = ghostscript(folder, [*words, "in.pdf"], None, "the trapped PDF")
     if done.returncode != 0:
         raise PressError(Status.PDF, f"Ghostscript cannot read it: {complaint(done)}", "the trapped PDF")

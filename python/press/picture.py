@@ -16,6 +16,7 @@ from PIL import Image, ImageCms
 from . import job
 from .errors import PressError, Status, reason
 from .folder import JOB, PageFolder, read_layout
+from .icc import need_press_profile
 from .inks import Look
 from .names import PROCESS, readable
 from .plates import Array
@@ -246,13 +247,12 @@ def usual_shifts(page: PageFolder) -> list[Shift]:
 # Profiles and files
 
 def need_profile(path: str) -> None:
-    """Refuses a file that is not the profile of a press with four inks."""
+    """Refuses a file that is not the profile of a press with four inks, or that cannot be read whole."""
+    need_press_profile(path)
     try:
-        space = ImageCms.getOpenProfile(path).profile.xcolor_space.strip()
+        ImageCms.getOpenProfile(path)
     except (OSError, ImageCms.PyCMSError) as fault:
         raise PressError(Status.INPUT, reason(fault), path) from fault
-    if space != "CMYK":
-        raise PressError(Status.INPUT, "no profile of a press with four inks", path)
 
 
 def converted(picture: Array, profile: str) -> Array:

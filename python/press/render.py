@@ -49,9 +49,7 @@ def render(source: Source, page: int, settings: Settings, folder: str) -> Render
              "-sCompression=none", "-dMaxSpots=60", "-dPrintSpotCMYK", f"-dFirstPage={page}", f"-dLastPage={page}",
              "-sOutputFile=page.tif", *BOX_OPTIONS[settings.box]]
     link(source.pdf, folder, "in.pdf")
-    if settings.icc:
-        link(settings.icc, folder, "output.icc")
-        words += ["-sOutputICCProfile=output.icc", "--permit-file-read=output.icc"]
+    words += profile_words(settings.icc, folder)
     done = ghostscript(folder, [*words, "in.pdf"], settings.time, source.place(page))
     if done.returncode != 0:
         raise PressError(Status.PDF, f"Ghostscript cannot read it: {complaint(done)}", source.place(page))
@@ -74,6 +72,15 @@ def link(path: str, folder: str, name: str) -> None:
     inside = os.path.join(folder, name)
     if not os.path.lexists(inside):
         os.symlink(os.path.realpath(path), inside)
+
+
+def profile_words(profile: str | None, folder: str) -> list[str]:
+    """Ghostscript's words for the profile of the press. CMYK without a profile of its own is taken to be in the
+    press's inks already: else Ghostscript would convert it from its own default profile, black type into four inks."""
+    if profile is None:
+        return []
+    link(profile, folder, "output.icc")
+    return ["-sOutputICCProfile=output.icc", "-sDefaultCMYKProfile=output.icc", "--permit-file-read=output.icc"]
 
 
 def plane(folder: str, one: Separation) -> Array:

@@ -9,7 +9,8 @@ from dataclasses import dataclass, field
 from typing import Any
 
 from .errors import UsageError
-from .files import head_of, table_lines
+from .files import table_lines
+from .icc import need_press_profile
 from .tools import PRESS
 
 BOXES = ("media", "crop", "bleed", "trim", "art")
@@ -221,7 +222,7 @@ class Settings:
         if settings.pdf and settings.tiff_only:
             raise UsageError("--pdf and --tiff-only do not go together: a trapped PDF is made of plates")
         if settings.icc:
-            head_of(settings.icc)
+            need_press_profile(settings.icc)
         return settings
 
     def but(self, **changes: Any) -> "Settings":

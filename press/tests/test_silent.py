@@ -1,0 +1,124 @@
+# SPDX-License-Identifier: Apache-2.0
+"""What the documents say is what happens: nothing that changes plates goes unsaid."""
+import struct
+from pathlib import Path
+
+import pikepdf
+import pytest
+from pdf_writer import Pdf, spot
+from room import Room
+
+RGB_PROFILE = Path("/usr/share/color/icc/ghostscript/srgb.icc")
+GRID = 5
+
+
+# Profiles
+
+def table_of(inputs: int, outputs: int, grid: int, cells: list[tuple[float, ...]]) -> bytes:
+    """A table of a profile with 8 bits a number, and curves that change nothing."""
+    identity = bytes(range(256))
+    ones = struct.pack(">9i", *(65536 if k % 4 == 0 else 0 for k in range(9)))
+    numbers = bytes(round(255 * part) for cell in cells for part in cell)
+    return b"mft1\0\0\0\0" + bytes((inputs, outputs, grid, 0)) + ones + identity * inputs + numbers + identity * outputs
+
+
+def press_profile() -> bytes:
+    """The profile of a press that prints gray with all four inks: black alone is no colour that it separates into."""
+    looks = [(1 - max(k, (c + m + y) / 3), 0.5, 0.5) for c in (0, 1) for m in (0, 1) for y in (0, 1) for k in (0, 1)]
+    inks = [((1 - light / 4) * 0.7,) * 4 for light in range(GRID) for _ in range(GRID * GRID)]
+    name = b"A press\0"
+    tags = {b"desc": b"desc\0\0\0\0" + struct.pack(">I", len(name)) + name + bytes(78), b"cprt": b"text\0\0\0\0none\0",
+            b"wtpt": b"XYZ \0\0\0\0" + struct.pack(">3i", 63190, 65536, 54061),
+            b"A2B0": table_of(4, 3, 2, looks), b"B2A0": table_of(3, 4, GRID, inks)}
+    start, entries, data = 132 + 12 * len(tags), b"", b""
+    for tag, text in tags.items():
+        entries += struct.pack(">4sII", tag, start + len(data), len(text))
+        data += text + bytes(-len(text) % 4)
+    head = struct.pack(">I4sI4s4s4s12s4s28x3i48x", start + len(data), b"\0\0\0\0", 0x02200000, b"prtr", b"CMYK", b"Lab ",
+                       bytes(12), b"acsp", 63190, 65536, 54061)
+    return head + struct.pack(">I", len(tags)) + entries + data
+
+
+COLOURS = ("0 0 0 1 k", "0.3 0.2 0.1 0.6 k", "0 g", "0.4 g", "/S0 cs 1 scn", "/S0 cs 0.5 scn", "/S1 cs 0.7 scn", "/S2 cs 0.6 0.4 scn")
+
+
+def inked_pdf() -> bytes:
+    """A page in which CMYK, gray, a spot, black as a spot and a pair of colorants stand side by side, a picture in CMYK, and a
+    second row that is half transparent over them."""
+    file = Pdf()
+    calculated = file.stream("/FunctionType 4 /Domain [0 1 0 1] /Range [0 1 0 1 0 1 0 1]", "{ 0 exch 0 exch }")
+    picture = file.image("/Width 2 /Height 1 /BitsPerComponent 8 /ColorSpace /DeviceCMYK", bytes((10, 20, 30, 200, 0, 0, 0, 255)))
+    pair = f"[/DeviceN [/Cyan /Warm] /DeviceCMYK {calculated}]"
+    resources = (f"/ColorSpace << /S0 {spot(b'Warm')} /S1 {spot(b'Black', '0 0 0 1')} /S2 {pair} >> /XObject << /Im {picture} >> "
+                 "/ExtGState << /Half << /ca 0.5 >> >>")
+    squares = " ".join(f"{colour} {10 * k} 0 10 20 re f" for k, colour in enumerate(COLOURS))
+    file.page(f"{squares} q 20 0 0 20 80 0 cm /Im Do Q /Half gs 0 0 0 0.5 k 0 0 100 10 re f", (100, 20), resources)
+    return file.bytes()
+
+
+def samples(folder: Path) -> dict[str, bytes]:
+    """The plates of a page folder."""
+    return {file.name: file.read_bytes() for file in folder.glob("*.pgm")}
+
+
+def test_inks_keep_their_numbers_under_a_press_profile(room: Room) -> None:
+    """CMYK, gray, spots and pairs of colorants are printed as the file has them, whatever the press's profile is."""
+    room.write("inks.pdf", inked_pdf())
+    room.write("press.icc", press_profile())
+    room.goes("plates", "inks.pdf", "without", "--dpi", "72")
+    room.goes("plates", "inks.pdf", "with", "--dpi", "72", "--icc", "press.icc")
+    assert samples(room / "with") == samples(room / "without")
+    assert len(samples(room / "with")) == 5
+
+
+def test_other_colours_go_by_the_press_profile(room: Room) -> None:
+    """RGB is separated by the press's profile: here gray into four inks of one tint."""
+    file = Pdf()
+    file.page("0 0 0 rg 0 0 10 10 re f", (10, 10))
+    room.write("rgb.pdf", file.bytes())
+    room.write("press.icc", press_profile())
+    room.goes("plates", "rgb.pdf", "with", "--dpi", "72", "--icc", "press.icc")
+    tints = {name: 255 - data[-1] for name, data in samples(room / "with").items()}
+    assert set(tints) == {"Cyan.pgm", "Magenta.pgm", "Yellow.pgm", "Black.pgm"}
+    assert len(set(tints.values())) == 1 and tints["Cyan.pgm"] >= 100, tints
+
+
+@pytest.mark.parametrize("command, operands", [
+    ("plates", ["pair.pdf", "new"]), ("preflight", ["pair.pdf"]), ("all", ["pair.pdf", "new"]), ("watch", ["in"]),
+    ("farm", ["pair.pdf", "new"]), ("pdf", ["pair.pdf", "new.pdf", "page"])])
+def test_profile_of_no_press(room: Room, command: str, operands: list[str]) -> None:
+    """A display's profile is refused with its name and class, before anything is drawn."""
+    room.sample("pair.pdf")
+    (room / "in").mkdir()
+    room.refused(4, rf"press-{command}: {RGB_PROFILE}: no CMYK output profile: 'Artifex Software sRGB ICC Profile' is of the class "
+                 "display and of RGB colours", command, *operands, "--icc", RGB_PROFILE)
+
+
+def test_file_that_is_no_profile(room: Room) -> None:
+    """A file that is no profile at all, and one that is cut off after its head."""
+    room.sample("pair.pdf")
+    room.write("text.icc", "no profile")
+    room.write("cut.icc", press_profile()[:140])
+    room.refused(4, r"press-plates: text\.icc: no ICC profile", "plates", "pair.pdf", "new", "--icc", "text.icc")
+    room.refused(4, r"press-plates: cut\.icc: no CMYK output profile: .*", "plates", "pair.pdf", "new", "--icc", "cut.icc")
+
+
+def with_intents(room: Room, *profiles: bytes) -> None:
+    """Gives pair.pdf output intents with these profiles."""
+    room.sample("pair.pdf")
+    with pikepdf.open(room / "pair.pdf", allow_overwriting_input=True) as pdf:
+        intents = [pikepdf.Dictionary(Type=pikepdf.Name.OutputIntent, OutputConditionIdentifier="one",
+                                      DestOutputProfile=pdf.make_indirect(pikepdf.Stream(pdf, data))) for data in profiles]
+        pdf.Root.OutputIntents = pikepdf.Array(intents)
+        pdf.save(room / "pair.pdf")
+
+
+def test_output_intent_of_no_press(room: Room) -> None:
+    """An output intent for a display is refused by its name; of several, that of the press is taken."""
+    with_intents(room, RGB_PROFILE.read_bytes())
+    done = room.run("plates", "pair.pdf", "new", "--dpi", "72", "--output-intent")
+    assert done.status == 4 and not (room / "new").exists()
+    assert done.err.splitlines()[-1].startswith("press-plates: pair.pdf: the profile of its output intent: no CMYK output profile: ")
+    assert "class display" in done.err
+    with_intents(room, RGB_PROFILE.read_bytes(), press_profile())
+    room.goes("plates", "pair.pdf", "new", "--dpi", "72", "--output-intent")
