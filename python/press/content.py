@@ -177,7 +177,7 @@ def type_findings(trace: Trace, info: PageInfo, settings: Settings, page: int) -
         enough = math.ceil(LEAST_PIXELS * 72 / (STEM * smallest.size) / 100) * 100
         yield Finding("thin-strokes", NOTE, page, f"coloured type of {smallest.size:.1f} pt "
                       f"{at(on_page(smallest.box, info, settings))} has strokes of about {stroke:.1f} pixels at "
-                      f"{settings.dpi} dpi: if it is trapped, it loses its colour or keeps gaps ({enough} dpi would do)")
+                      f"{settings.dpi} dpi: traps take its colour or leave gaps ({enough} dpi would do)")
 
 
 def is_plain_black(space: str, colour: Sequence[float]) -> bool:
