@@ -79,7 +79,8 @@ def test_signals_wait_while_a_process_is_forked() -> None:
     before = signal.signal(signal.SIGTERM, lambda number, _: handled.append(number))
     try:
         with tools.signals_wait():
-            os.kill(os.getpid(), signal.SIGTERM)
+            # To this thread: another one, which a parallel test run has, would take it at once.
+            signal.raise_signal(signal.SIGTERM)
             assert not handled
         assert handled == [signal.SIGTERM]
     finally:
