@@ -51,6 +51,8 @@ def test_total_ink_and_where(maxval: int) -> None:
     assert texts(content.ink_findings(plates, inks, 1, 3.0)) == {
         "total-ink": "360% of ink at 35, 8 mm, and the limit is 300% (--total-ink)"}
     assert not list(content.ink_findings(plates, inks, 1, 3.6))
+    # Marks and patches outside the trim box are on more plates than a sheet can hold.
+    assert content.coverage_of(plates, inks, Rect(5, 5, 90, 70)).total == pytest.approx(2.4, abs=0.005)
 
 
 def test_inks_that_meet_without_a_trap_are_named() -> None:

@@ -56,8 +56,10 @@ def at(rect: Rect) -> str:
 
 # Ink
 
-def coverage_of(plates: Plates, inks: Sequence[Ink]) -> Coverage:
-    """How much ink a page takes, row block by row block. Varnish, die lines and the like are left out of the total."""
+def coverage_of(plates: Plates, inks: Sequence[Ink], within: Rect | None = None) -> Coverage:
+    """How much ink a page takes, row block by row block. Varnish, die lines and the like are left out of the total, and
+    so is what lies outside a box in points: marks are on every plate."""
+    columns, lines = inside(plates, within)
     sums = numpy.zeros(len(plates.arrays))
     best, row, column = -1.0, 0, 0
     wide = numpy.uint16 if plates.maxval < 256 else numpy.uint32
@@ -70,18 +72,32 @@ def coverage_of(plates: Plates, inks: Sequence[Ink]) -> Coverage:
             sums[number] += float(tints.sum(dtype=numpy.uint64))
             if counts(ink.kind):
                 total = tints if total is None else total + tints
-        if total is not None and total.max() > best:
-            place = numpy.unravel_index(int(total.argmax()), total.shape)
-            best, row, column = float(total.max()), first + int(place[0]), int(place[1])
+        top, bottom = max(lines.start - first, 0), max(lines.stop - first, 0)
+        part = total[top:bottom, columns] if total is not None else None
+        if part is not None and part.size and part.max() > best:
+            place = numpy.unravel_index(int(part.argmax()), part.shape)
+            best = float(part.max())
+            row, column = first + top + int(place[0]), columns.start + int(place[1])
     scale = 72 / plates.resolution
     samples = plates.width * plates.height * plates.maxval
     return Coverage(tuple(float(one) / samples for one in sums), max(best, 0) / plates.maxval,
                     ((column + 0.5) * scale, (plates.height - row - 0.5) * scale))
 
 
-def ink_findings(plates: Plates, inks: Sequence[Ink], page: int, limit: float) -> Iterator[Finding]:
+def inside(plates: Plates, within: Rect | None) -> tuple[slice, slice]:
+    """The columns and rows of a box."""
+    if within is None:
+        return slice(0, plates.width), slice(0, plates.height)
+    scale = plates.resolution / 72
+    top, bottom = plates.height - within.upper * scale, plates.height - within.lower * scale
+    return (slice(max(0, int(within.left * scale)), max(0, int(within.right * scale + 0.5))),
+            slice(max(0, int(top)), max(0, int(bottom + 0.5))))
+
+
+def ink_findings(plates: Plates, inks: Sequence[Ink], page: int, limit: float,
+                 within: Rect | None = None) -> Iterator[Finding]:
     """That a place takes more ink than the limit, a share of full ink."""
-    found = coverage_of(plates, inks)
+    found = coverage_of(plates, inks, within)
     if found.total > limit + 0.005:
         x, y = found.place
         yield Finding("total-ink", NOTE, page, f"{100 * found.total:.0f}% of ink {at(Rect(x, y, x, y))}, and the limit "

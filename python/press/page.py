@@ -12,9 +12,10 @@ from .folder import JOB, ZONES, PageFolder, PageSource, write_table
 from .icc import need_press_profile
 from .inkedits import InkEdits, edit_plates, pairs_of
 from .inks import Ink, InkBook
-from .layout import Layout, lay_out
+from .layout import Layout, lay_out, trap_box
 from .pairs import directed, pairs_file, read_pairs
 from .plates import Plates, write_pgm
+from .rects import Rect
 from .render import Rendering, render
 from .settings import Settings
 from .source import PageInfo, Source
@@ -85,9 +86,9 @@ def layout_of(page: Page, settings: Settings) -> Layout:
     return lay_out(own, page.info, page.trace, page.rendering.plates, page.inks, settings)
 
 
-def with_coverage(layout: Layout, plates: Plates, inks: Sequence[Ink]) -> Layout:
-    """The layout, with how much ink the page takes: in per cent by plate, and the highest sum."""
-    found = coverage_of(plates, inks)
+def with_coverage(layout: Layout, plates: Plates, inks: Sequence[Ink], within: Rect | None) -> Layout:
+    """The layout, with how much ink the page takes: in per cent by plate, and the highest sum within a box."""
+    found = coverage_of(plates, inks, within)
     return replace(layout, coverage=tuple(zip((ink.name for ink in inks), found.plates)), total_ink=found.total)
 
 
@@ -97,7 +98,8 @@ def write_page(page: Page, settings: Settings, folder: str, layout: Layout | Non
         write_pgm(os.path.join(folder, name + ".pgm"), array, page.rendering.plates.maxval)
     source = PageSource(os.fsencode(os.path.basename(page.source.path)), page.number, settings.dpi)
     return write_folder(folder, source, page.inks,
-                        with_coverage(layout or layout_of(page, settings), page.rendering.plates, page.inks))
+                        with_coverage(layout or layout_of(page, settings), page.rendering.plates, page.inks,
+                                      trap_box(page.info, settings)[0]))
 
 
 def write_folder(folder: str, source: PageSource, inks: tuple[Ink, ...], layout: Layout) -> PageFolder:
