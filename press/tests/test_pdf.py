@@ -13,6 +13,7 @@ from pdf_cases import (ART, CASES, CROPPED, SEE_THROUGH, draw, files_in, folders
                        killed_at_rename, layers_off, one_page, run_command, run_with_room, saved, three_pages,
                        with_annotations)
 from pikepdf import Array, Dictionary, Name, String
+from room import Room
 
 from press.errors import PressError, Status
 from press.pdf import LAYER, NETWORK, PLAIN, PdfResult, PdfSettings, write_trapped_pdf, write_without_traps
@@ -21,7 +22,7 @@ from press.trapped_page import read_trapped_page
 
 OUTPUT = "trapped.pdf"
 PROFILE = Path("/usr/share/color/icc/ghostscript/ps_cmyk.icc")
-FONT = "page 1: the file does not embed Helvetica: where another face stands in its place, the traps do not fit"
+FONT = "page 1: the file does not embed Helvetica: a RIP that takes another face for it gets traps that do not fit"
 
 
 def trapped(source: Path, folders: list[Path], **settings: Any) -> PdfResult:
@@ -195,7 +196,7 @@ def test_plates_of_another_size(tmp_path: Path) -> None:
     folders = folders_of(path)
     other = saved(one_page(ART, (0, 0, 300, 132)), tmp_path / "other.pdf")
     found = refusal(other, folders)
-    assert found.status is Status.PLATES and "204 by 132 pixels" in str(found) and "page 1" in str(found)
+    assert found.status is Status.PLATES and "204 by 132 pixels" in str(found) and "other.pdf: page 1: " in str(found)
 
 
 def test_pages_that_are_not_there_or_twice(plain: tuple[Path, list[Path]]) -> None:
@@ -236,7 +237,7 @@ def test_a_tagged_page_that_blends_in_other_colours(tmp_path: Path) -> None:
     """Its tags would name a stream that is no more."""
     path = saved(one_page(ART + SEE_THROUGH, Group=group(Name.DeviceRGB), StructParents=0), tmp_path / "in.pdf")
     found = refusal(path, folders_of(path))
-    assert found.status is Status.PDF and "tagged" in str(found)
+    assert found.status is Status.PDF and str(found).startswith("in.pdf: page 1: the page is tagged")
     path = saved(one_page(b"Q " + ART, StructParents=0), tmp_path / "in2.pdf")
     assert trapped(path, folders_of(path)).verified
 
@@ -422,6 +423,21 @@ def test_postscript(tmp_path: Path) -> None:
         write_pgm(str(tmp_path / "page" / "trapped" / plate.name), new, 255)
     done = run_command("pdf", path, tmp_path / "out.pdf", tmp_path / "page")
     assert done.returncode == 0 and "40 pixels are traps" in done.stdout, done
+
+
+@pytest.mark.usefixtures("built")
+def test_the_whole_way(room: Room) -> None:
+    """press/all --pdf makes a trapped PDF of all pages; if it is refused, the pages stand, and the status is 1."""
+    room.sample("pair.pdf")
+    room.goes("all", "pair.pdf", "out", "--pdf", "--quiet", "--no-proof", "--dpi", "150", "--width", "0.4mm")
+    told = json.loads((room / "out" / "pair-trapped.json").read_text())
+    assert told["verified"] and told["pages"][0]["traps"] > 0
+    with pikepdf.open(room / "pair.pdf") as pdf:
+        pdf.save(room / "locked.pdf", encryption=pikepdf.Encryption(owner="owner", user=""))
+    done = room.run("all", "locked.pdf", "two", "--pdf", "--quiet", "--no-proof", "--dpi", "150", "--width", "0.4mm")
+    assert done.status == 1 and "no trapped PDF: locked.pdf: encrypted" in done.err, done
+    assert (room / "two" / "page-001" / "trapped" / "report").exists() and not (room / "two" / "locked-trapped.pdf").exists()
+    room.refused(2, ".*--pdf and --tiff-only do not go together.*", "all", "pair.pdf", "three", "--pdf", "--tiff-only")
 
 
 @pytest.mark.parametrize("words, why", [

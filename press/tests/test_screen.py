@@ -381,8 +381,10 @@ def test_a_full_disk_and_a_killed_command(page: Path, tmp_path: Path) -> None:
     assert run_command("screen", *words).returncode == 0
     whole = files_in(tmp_path)
     (tmp_path / "in-1(Cyan).tif").write_bytes(b"old")
-    killed_at_rename(2, "screen", *words)
+    # The first rename is that of the report in its own folder, the second one of a plate.
+    killed_at_rename(4, "screen", *words)
     left = files_in(tmp_path)
+    assert left["in-1(Black).tif"] == whole["in-1(Black).tif"]
     assert all(left[name] == whole[name] or left[name] == b"old" for name in whole)
     assert len(list(tmp_path.iterdir())) == len(whole) + 1
     assert run_command("screen", *words).returncode == 0

@@ -90,8 +90,8 @@ def fonts_line(page: pikepdf.Page, number: int) -> str | None:
         return None
     if not names:
         return None
-    return (f"page {number}: the file does not embed {', '.join(names)}: where another face stands in its place, the "
-            f"traps do not fit")
+    return (f"page {number}: the file does not embed {', '.join(names)}: a RIP that takes another face for it gets "
+            f"traps that do not fit")
 
 
 def judge(pdf: pikepdf.Pdf, pages: Sequence[TrappedPage], settings: PdfSettings, result: PdfResult, path: str) -> None:
@@ -198,9 +198,13 @@ def write_trapped_pdf(source: str, made: str, pages: Sequence[TrappedPage], sett
                       shown: str) -> PdfResult:
     """Writes the trapped PDF of a file to the path `made`, and proves it. `shown` is the file's name for messages."""
     result = PdfResult()
-    with open_pdf(source, settings.decrypt) as pdf:
+    with open_pdf(source, settings.decrypt, shown) as pdf:
         judge(pdf, pages, settings, result, shown)
-        result.pages = [trap_page(pdf, page, settings) for page in sorted(pages, key=lambda one: one.number)]
+        for page in sorted(pages, key=lambda one: one.number):
+            try:
+                result.pages.append(trap_page(pdf, page, settings))
+            except PressError as refusal:
+                raise PressError(refusal.status, refusal.message, f"{shown}: page {page.number}") from refusal
         mark_trapped(pdf, len(pages) == len(pdf.pages), [done.page.number for done in result.pages])
         save(pdf, made, settings.form)
     if settings.verify:
@@ -210,7 +214,7 @@ def write_trapped_pdf(source: str, made: str, pages: Sequence[TrappedPage], sett
 
 def write_without_traps(source: str, made: str, shown: str) -> list[int]:
     """Writes a trapped PDF without the traps that press/pdf put on it. Returns the pages that had some."""
-    with open_pdf(source, False) as pdf:
+    with open_pdf(source, False, shown) as pdf:
         cleared = remove_traps(pdf)
         if not cleared:
             raise PressError(Status.PDF, "no page has traps of press/pdf", shown)

@@ -81,19 +81,20 @@ def fields_below(fields: Any, depth: int) -> Iterator[Any]:
             yield from fields_below(one.get("/Kids"), depth + 1)
 
 
-def open_pdf(path: str, decrypt: bool) -> pikepdf.Pdf:
-    """The file. One that is encrypted is opened by an empty password, if its owner agrees."""
+def open_pdf(path: str, decrypt: bool, shown: str) -> pikepdf.Pdf:
+    """The file, which messages call `shown`. One that is encrypted is opened by an empty password, if its owner
+    agrees."""
     try:
         pdf = pikepdf.open(path)
     except pikepdf.PasswordError:
-        raise PressError(Status.PDF, "encrypted, and it needs a password", path) from None
+        raise PressError(Status.PDF, "encrypted, and it needs a password", shown) from None
     except pikepdf.PdfError as fault:
-        raise PressError(Status.PDF, f"cannot be read: {fault_line(fault, path)}", path) from None
+        raise PressError(Status.PDF, f"cannot be read: {fault_line(fault, path)}", shown) from None
     except OSError as fault:
-        raise PressError(Status.INPUT, fault.strerror or str(fault), path) from None
+        raise PressError(Status.INPUT, fault.strerror or str(fault), shown) from None
     if pdf.is_encrypted and not decrypt:
         pdf.close()
-        raise PressError(Status.PDF, "encrypted, and a trapped PDF is not (--decrypt, with the owner's consent)", path)
+        raise PressError(Status.PDF, "encrypted, and a trapped PDF is not (--decrypt, with the owner's consent)", shown)
     return pdf
 
 
