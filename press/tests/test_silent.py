@@ -5,7 +5,13 @@ from pathlib import Path
 
 import pikepdf
 import pytest
+import tifffile
+from conftest import Pages
 from pdf_writer import Pdf, spot
+from press import engine
+from press.folder import PageFolder, PageSource
+from press.inks import Ink
+from press.plates import Head
 from room import Room
 
 RGB_PROFILE = Path("/usr/share/color/icc/ghostscript/srgb.icc")
@@ -122,3 +128,51 @@ def test_output_intent_of_no_press(room: Room) -> None:
     assert "class display" in done.err
     with_intents(room, RGB_PROFILE.read_bytes(), press_profile())
     room.goes("plates", "pair.pdf", "new", "--dpi", "72", "--output-intent")
+
+
+# Plates of another RIP, pictures, proofs, and pages without plates
+
+def test_resolution_that_files_do_not_say(room: Room, pages: Pages) -> None:
+    """--dpi over files that say another resolution is warned of, and stands in all that is written."""
+    room.goes("tiff", "--untrapped", "--name", "all", pages.plates("two", "--kind", "Gold Foil=Normal"), "tiffs")
+    words = [word for ink in ("Cyan", "Magenta") for word in ("--tiff", f"{ink}=tiffs/all({ink}).tif")]
+    assert room.goes("plates", *words, "same").err == ""
+    told = room.goes("plates", *words, "other", "--dpi", "300").err
+    assert "--dpi 300 is taken, and tiffs/all(Cyan).tif and 1 more says 600" in told
+    assert "/HWResolution [300 300]" in (room / "other/page.job").read_text()
+    room.goes("tiff", "--untrapped", "--name", "all", "other", "again")
+    with tifffile.TiffFile(room / "again/all(Cyan).tif") as file:
+        assert file.pages.first.tags["XResolution"].value == (300, 1)
+
+
+def test_picture_that_does_not_fit(room: Room, two: Path) -> None:
+    """A picture that is enlarged beyond memory is refused with the size that would fit."""
+    assert two.is_dir()
+    room.refused(2, r"press-look: --enlarge 64 makes 64000 by 25600 points of this part, and a picture has at most 100000000: "
+                 r"--enlarge 15 would fit, or a --part of 156 samples a side .*", "look", "--untrapped", "two", "new.png", "--enlarge", "64")
+
+
+def test_proof_of_a_page_that_is_not_there(room: Room, built: None) -> None:
+    """A page that a run does not have is refused, and the old proof stays."""
+    room.sample("three.pdf")
+    room.goes("all", "--quiet", "--dpi", "72", "--page", "1-2", "three.pdf", "out")
+    room.refused(5, r"press-proof: out: --page: page 7 is not here; done are 1-2", "proof", "out", "--page", "2,7")
+    room.refused(5, r"press-proof: out/page-001: --page: the folder has page 1 alone", "proof", "out/page-001", "--page", "7")
+
+
+def test_page_without_plates(room: Room, built: None) -> None:
+    """A page of which no plates are kept has no plates, to each command."""
+    room.sample("three.pdf")
+    room.goes("all", "--quiet", "--dpi", "72", "--page", "1", "--tiff-only", "--no-proof", "three.pdf", "out")
+    line = r"press-%s: out/page-001: no plates here: they were not kept \(--tiff-only\), and press/plates makes them anew"
+    for command, *out in (("trap",), ("tiff", "new"), ("look", "new.png")):
+        room.refused(6, line % command, command, "out/page-001", *out)
+
+
+def test_check_of_a_page_for_trapsheet(tmp_path: Path) -> None:
+    """What presscheck needs is said by the page's name, and by no temporary path."""
+    ink = Ink("Black", b"Black", b"Black", "1.7", "Normal", (0, 0, 0, 100), True)
+    page = PageFolder(str(tmp_path / "made"), PageSource(b"wide.pdf", 2, 600), (ink,), Head(16667, 17, 255))
+    line, = engine.check(page, "trapped", 1)
+    assert line.startswith("wide.pdf: page 2: presscheck takes no page of this size") and str(tmp_path) not in line
+    assert line.endswith("(at most 589 pixels per inch would fit)"), line

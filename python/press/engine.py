@@ -181,8 +181,12 @@ def trap(page: PageFolder, settings: Settings, started: Started | None = None) -
 
 def check(page: PageFolder, out: str, radius: int) -> tuple[str, ...]:
     """Has presscheck count the samples at risk. It takes no page that is too large for trap, which is a warning."""
-    if not fits_page(page.head.width, page.head.height, len(page.inked)):
-        return (f"{page.path}: presscheck takes no page of this size: not checked",)
+    (width, height), inked, dpi = (page.head.width, page.head.height), len(page.inked), page.source.resolution
+    if not fits_page(width, height, inked):
+        fits = most_dpi((width / dpi * 72, height / dpi * 72), inked, LONGEST_SIDE, MOST_SAMPLES)
+        return (f"{readable(page.source.pdf)}: page {page.source.page}: presscheck takes no page of this size: not "
+                f"checked: {width} by {height} samples in {inked} plates with ink, and it takes {MOST_SAMPLES} samples "
+                f"and {LONGEST_SIDE} a side (at most {min(fits, dpi)} pixels per inch would fit)",)
     printed = run_on(page, "presscheck", [str(radius), JOB, *(f"{ink.name}:{ink.name}.pgm" for ink in page.inked)])
     with open(page.file(out, CHECK), "wb") as file:
         file.write(printed)

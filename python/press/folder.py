@@ -19,6 +19,7 @@ TABLE, JOB, TRAPPED, REPORT, CHECK, JSON = "colorants.txt", "page.job", "trapped
 ZONES = "zones.json"
 TIFF, WARNINGS, WHY, PART, SHEET = "tiff", "warnings.txt", "why", "proof.part", "proof.html"
 NO_PLATES = "no plates here (press/plates makes such a folder)"
+NOT_KEPT = "no plates here: they were not kept (--tiff-only), and press/plates makes them anew"
 TABLE_HEAD = """\
 # The colorants that were found on a page. Of each: its name in the job, its neutral density, its kind, the process
 # inks that look like it in hundredths, whether its plate has ink, its name in tiffsep's file names, and in the PDF, and
@@ -48,6 +49,8 @@ class PageFolder:
     def read(cls, path: str) -> "PageFolder":
         """The page in a folder. Refuses a folder without plates, and plates that make no page."""
         source, inks = read_table(path)
+        if not any(os.path.lexists(os.path.join(path, ink.name + ".pgm")) for ink in inks):
+            raise PressError(Status.NO_PLATES, NOT_KEPT, path)
         found = plates.read_plates({ink.name: os.path.join(path, ink.name + ".pgm") for ink in inks}, source.resolution)
         return cls(path, source, inks, Head(found.width, found.height, found.maxval))
 

@@ -1,5 +1,6 @@
 # SPDX-License-Identifier: Apache-2.0
 """Pictures of a page for press/look: as it is, its traps, or before and after with the plates out of register."""
+import math
 import os
 import re
 from collections.abc import Sequence
@@ -15,6 +16,8 @@ from .picture import Painter, Part, Shift, usual_shifts
 from .plates import Array
 
 SPACE = 12
+# So many points take less than a gigabyte while a picture is drawn.
+MOST_POINTS = 100_000_000
 
 
 @dataclass(frozen=True)
@@ -43,6 +46,7 @@ def look(folder: str, out: str, options: LookOptions) -> list[str]:
         page.need_trapped()
     painter = Painter(page, with_trapped)
     part = part_of(options.part, painter)
+    need_points(part, options)
     with whole_file(out) as path:
         Image.fromarray(drawn(painter, part, options)).save(path, format="PNG", optimize=True)
     return painter.table(part) if options.traps else []
@@ -67,6 +71,19 @@ def drawn(painter: Painter, part: Part, options: LookOptions) -> Array:
     pictures = [enlarged(shrunk(painter.picture(one, part, shifts), options.shrink), options.enlarge) for one in planes]
     space = numpy.full((pictures[0].shape[0], SPACE, 3), 255, dtype="u1")
     return pictures[0] if len(pictures) == 1 else numpy.concatenate([pictures[0], space, pictures[1]], axis=1)
+
+
+def need_points(part: Part, options: LookOptions) -> None:
+    """Refuses to enlarge a picture beyond what memory holds, and says what would fit."""
+    _, _, width, height = part
+    width, height = width // options.shrink, height // options.shrink
+    points = width * height * (1 if options.misregister is None else 2)
+    if options.enlarge == 1 or points * options.enlarge ** 2 <= MOST_POINTS:
+        return
+    raise UsageError(f"--enlarge {options.enlarge} makes {width * options.enlarge} by {height * options.enlarge} points "
+                     f"of this part, and a picture has at most {MOST_POINTS}: --enlarge "
+                     f"{max(1, math.isqrt(MOST_POINTS // points))} would fit, or a --part of "
+                     f"{math.isqrt(MOST_POINTS) // options.enlarge} samples a side")
 
 
 def shifts_of(words: Sequence[str], page: PageFolder) -> list[Shift]:

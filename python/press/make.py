@@ -136,6 +136,8 @@ def make_of_tiffs(given: TiffPlates, folder: str, settings: Settings = Settings(
         found = [Finding(kind, level, None, text) for ink in inks for kind, level, text in unsure_lines(ink)]
         found += [Finding("inks-line", WARNING, None, line) for line, table in book.strangers() if table is None]
         found += layout.findings(None, settings.dpi)
+        line = tiff.overruled(given.dpi, files)
+        found += [Finding("resolution", WARNING, None, line)] if line else []
         report(folder, found, observer)
         put_folder(made, folder)
     return PageFolder.read(folder)

@@ -250,8 +250,8 @@ def stranger_findings(source: Source, book: InkBook, pages: Sequence[int]) -> It
     for line, _ in book.strangers():
         yield Finding("inks-line", WARNING, None, line)
     own = edits_of(book.settings, InkBook(Settings(), None))
-    for name in sorted({*own.merge, *own.rename, *own.to_process, *own.drop} - book.met):
-        yield Finding("inks-line", WARNING, None, f"no colorant of the page is called {readable(name)}")
+    for stranger in sorted({*own.merge, *own.rename, *own.to_process, *own.drop} - book.met):
+        yield Finding("inks-line", WARNING, None, f"no colorant of the page is called {readable(stranger)}")
 
 
 # A page

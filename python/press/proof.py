@@ -15,6 +15,7 @@ from . import gaps
 from .engine import Report, read_report
 from .errors import PressError, Status
 from .files import whole_file, write_text
+from .findings import page_ranges
 from .folder import (JOB, JSON, NO_PLATES, PART, REPORT, SHEET, TABLE, TRAPPED, WARNINGS, JobFolder, PageFolder,
                      read_layout, read_table, read_text)
 from .names import readable
@@ -32,9 +33,11 @@ escaped = html.escape
 
 # Sheets
 
-def write_sheet_of_page(folder: str) -> None:
-    """Writes the proof sheet of a page's folder into it."""
+def write_sheet_of_page(folder: str, asked: Sequence[int] = ()) -> None:
+    """Writes the proof sheet of a page's folder into it. Refuses it if other pages are asked for."""
     source = read_table(folder)[0]
+    if any(page != source.page for page in asked):
+        raise PressError(Status.PDF, f"--page: the folder has page {source.page} alone", folder)
     title = f"Proof of {readable(source.pdf)}, page {source.page}"
     write_sheet(os.path.join(folder, SHEET), title, "", [part_of_page(folder)])
 
@@ -45,6 +48,11 @@ def write_sheet_of_all(out: str, asked: Sequence[int] = ()) -> None:
     done, failed = JobFolder(out).pages()
     if not done and not failed:
         raise PressError(Status.NO_PLATES, "no plates here, and no pages of press/all", out)
+    absent = [page for page in asked if page not in done]
+    if absent:
+        failed_too = "failed" if absent[0] in failed else "is not here"
+        raise PressError(Status.PDF, f"--page: page {absent[0]} {failed_too}; done are {page_ranges(done) or 'none'}",
+                         out)
     changed = {page: read_report(folder).changed for page, folder in done.items()}
     chosen = [page for page in done if page in asked] if asked else \
         sorted(sorted(done, key=lambda page: -changed[page])[:MOST_PAGES])

@@ -225,6 +225,16 @@ def resolution_of(asked: int | None, files: Sequence[Separation]) -> int:
     return files[0].dpi or 0
 
 
+def overruled(asked: int | None, files: Sequence[Separation]) -> str | None:
+    """That files say another resolution than the one that is asked for."""
+    others = [file for file in files if asked and file.dpi and file.dpi != asked]
+    if not others:
+        return None
+    more = f" and {len(others) - 1} more" if len(others) > 1 else ""
+    return (f"--dpi {asked} is taken, and {others[0].path}{more} says {others[0].dpi}: a trap of one width is as many "
+            f"pixels as at {asked} pixels per inch")
+
+
 def read_separation(file: Separation, inverted: bool) -> Array:
     """The plate of a separation (rows × columns, 0 is full ink): black is full ink, as the file's own polarity has
     it, or white if it is inverted."""
