@@ -45,7 +45,7 @@ status=$?
 made=("$work"/out/page-*)
 [ -d "${made[0]}" ] || exit "$status"
 final=$out/$(basename "${made[0]}") beside=$out/.press-$$-$(hostname)-$(printf '%08d' "$page")
-mkdir -p "$out" && cp -r "${made[0]}" "$beside" || { rm -rf "$beside"; exit 8; }
+if ! { mkdir -p "$out" && cp -r "${made[0]}" "$beside"; }; then rm -rf "$beside"; exit 8; fi
 rm -rf "$final" "${final%.failed}" "${final%.failed}.failed"
 mv -T "$beside" "$final" || exit 8
 exit "$status"
