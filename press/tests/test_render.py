@@ -6,6 +6,7 @@ import subprocess
 from pathlib import Path
 
 import pytest
+from pdf_writer import Pdf, spaces
 from readers import colorants, plate, tiff_plane, tiff_tags
 from room import LABEL, Room, needs
 
@@ -89,3 +90,14 @@ def test_profile(room: Room) -> None:
     room.sample("pair.pdf")
     room.goes("plates", "pair.pdf", "profiled", "--icc", "/usr/share/color/icc/ghostscript/default_cmyk.icc")
     assert plate(room / "profiled" / "Cyan.pgm").shape == (400, 1000)
+
+
+@pytest.mark.parametrize("dpi, samples", [("72", 60 * 30), ("300", 250 * 125)])
+def test_spots_of_a_small_page_with_transparency(room: Room, dpi: str, samples: int) -> None:
+    """The plate of a spot has the square that the page has, in every size: without bands Ghostscript 10.00 leaves it blank."""
+    file = Pdf()
+    state = "/ExtGState << /Half << /ca .5 >> >> "
+    file.page("/S0 cs 1 scn 10 10 60 30 re f", resources=state + spaces([b"Warm Red"]))
+    room.write("small.pdf", file.bytes())
+    room.goes("plates", "small.pdf", "small", "--dpi", dpi)
+    assert (plate(room / "small" / "Warm_Red.pgm") == 0).sum() >= samples
