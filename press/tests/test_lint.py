@@ -1,5 +1,6 @@
 # SPDX-License-Identifier: Apache-2.0
-"""The package, the commands and the tests are clean to flake8, pylint and mypy --strict, by the settings of the repository."""
+"""The package, the commands and the tests are clean to flake8, pylint and mypy --strict, by the settings of the repository: run by
+-m lint alone."""
 import os
 import subprocess
 import sys
@@ -8,7 +9,7 @@ from pathlib import Path
 import pytest
 from room import TOP, needs
 
-pytestmark = [pytest.mark.plain, pytest.mark.slow]
+pytestmark = [pytest.mark.plain, pytest.mark.lint]
 COMMANDS = sorted(str(path) for path in (TOP / "press").iterdir()
                   if path.is_file() and path.read_bytes().startswith(b"#!/usr/bin/env python3"))
 
@@ -29,7 +30,7 @@ def test_flake8() -> None:
 @needs("pylint")
 def test_pylint() -> None:
     """The package and the commands."""
-    check(TOP, "pylint", "--rcfile", TOP / "pyproject.toml", "--persistent", "n", "python/press", *COMMANDS)
+    check(TOP / "python", "pylint", "--rcfile", TOP / "pyproject.toml", "--persistent", "n", "press", *COMMANDS)
 
 
 @needs("mypy")
