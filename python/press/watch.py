@@ -84,7 +84,8 @@ def run_file(path: str, out: str, settings: Settings, told: str, end: Connection
         lines = RunLines(path, True, lambda line: print(line, file=file, flush=True))
         try:
             result = run(path, out, settings, observer=lines)
-            end.send("\n".join(end_line(result.pages[page]) for page in result.failed))
+            failed = [end_line(result.pages[page]) for page in result.failed]
+            end.send("\n".join(failed + ([f"no trapped PDF: {result.no_pdf}"] if result.no_pdf else [])))
         except PressError as refusal:
             line = clean(f"press-all: {refusal}")
             print(line, file=file)
