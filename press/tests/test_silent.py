@@ -1,6 +1,8 @@
 # SPDX-License-Identifier: Apache-2.0
 """What the documents say is what happens: nothing that changes plates goes unsaid."""
+import os
 import struct
+from collections.abc import Iterable
 from pathlib import Path
 
 import pikepdf
@@ -8,10 +10,13 @@ import pytest
 import tifffile
 from conftest import Pages
 from pdf_writer import Pdf, spot
-from press import engine
+from press import engine, job, owner_files
+from press.findings import Finding
 from press.folder import PageFolder, PageSource
 from press.inks import Ink
 from press.plates import Head
+from press.settings import Settings
+from press.source import PageInfo
 from room import Room
 
 RGB_PROFILE = Path("/usr/share/color/icc/ghostscript/srgb.icc")
@@ -176,3 +181,65 @@ def test_check_of_a_page_for_trapsheet(tmp_path: Path) -> None:
     line, = engine.check(page, "trapped", 1)
     assert line.startswith("wide.pdf: page 2: presscheck takes no page of this size") and str(tmp_path) not in line
     assert line.endswith("(at most 589 pixels per inch would fit)"), line
+
+
+# Files of the owner
+
+A4_TURNED = PageInfo({"media": (0, 0, 595, 842)}, 90, 1.0, ())
+
+
+def lines(found: Iterable[Finding]) -> list[str]:
+    """The texts of findings, which are all warnings."""
+    kept = list(found)
+    assert all(one.level == "warning" for one in kept)
+    return [one.text for one in kept]
+
+
+def test_page_device_in_a_zones_file() -> None:
+    """setpagedevice in a zones file is named with the keys that change something."""
+    text = b"% mine\n<< /HWResolution [300 300] /Trapping true >> setpagedevice\n<< /Trapping false /TrappingDetails << >> >> setpagedevice\n"
+    first, second = lines(owner_files.statement_findings("a.zones", text, None))
+    assert first == "a.zones: line 2: setpagedevice in a zones file replaces what the page's job says of /HWResolution"
+    assert second.endswith("line 3: setpagedevice in a zones file replaces what the page's job says of /Trapping, /TrappingDetails")
+
+
+def test_path_without_its_zone() -> None:
+    """A path that no settrapzone ends is named with its line; one that newpath drops, or that makes a zone, is not."""
+    text = b"0 0 moveto 9 0 lineto 9 9 lineto settrapzone\n1 1 moveto newpath\n5 5 moveto 6 6 lineto\n"
+    assert lines(owner_files.statement_findings("a.zones", text, None)) == [
+        "a.zones: line 3: the path ends without settrapzone, and makes no zone"]
+    assert not lines(owner_files.statement_findings("a.zones", text.partition(b"5 5")[0], None))
+
+
+def test_zone_that_covers_nothing() -> None:
+    """A zone off the page as it is displayed is named; one that reaches onto it is not."""
+    statements = [job.Statement("a.zones", b"0 700 moveto 50 0 rlineto 0 50 rlineto settrapzone\n"
+                                           b"700 10 moveto 100 0 rlineto 0 50 rlineto settrapzone settrapzone")]
+    first, second = lines(owner_files.zone_findings(statements, A4_TURNED, Settings(dpi=72), 1))
+    assert first == ("a.zones: zone 1 lies from 0 to 50 pt across and from 700 to 750 pt up, and covers no pixel of the page, which is "
+                     "842 by 595 pt as it is displayed")
+    assert second.startswith("a.zones: zone 3 has an empty path, and covers no pixel")
+
+
+def test_files_beside_that_are_not_used(tmp_path: Path) -> None:
+    """Files that look like those of the PDF and are not used are named, and those that fit two PDFs."""
+    for name in ("q.pdf", "q.zones", "q.2.zones", "q.01.zones", "q.3.zones", "q.pdf.zones", "Q.inks", "q.2.pdf", "quite.zones"):
+        (tmp_path / name).write_text("")
+    found = lines(owner_files.beside_findings(str(tmp_path / "q.pdf"), 2, Settings()))
+    unused = [os.path.basename(line.partition(" looks")[0]) for line in found if "is not used" in line]
+    assert unused == ["Q.inks", "q.01.zones", "q.3.zones", "q.pdf.zones"]
+    twice, = (line for line in found if "is not used" not in line)
+    assert twice.endswith("q.2.zones is taken for page 2 of q.pdf, and for all pages of q.2.pdf, which stands there too")
+    assert not lines(owner_files.beside_findings(str(tmp_path / "q.pdf"), 2, Settings(zones="a", inks="b")))
+    other, = lines(owner_files.beside_findings(str(tmp_path / "q.2.pdf"), 1, Settings()))
+    assert other.endswith("q.2.zones is taken for all pages of q.2.pdf, and for page 2 of q.pdf, which stands there too")
+
+
+def test_owner_files_are_judged_on_the_way(room: Room) -> None:
+    """What the owner's files do not do is warned of when plates are made."""
+    room.sample("pair.pdf")
+    room.write("pair.zones", "<< /HWResolution [300 300] >> setpagedevice 900 10 moveto 9 0 rlineto 0 9 rlineto settrapzone 1 1 moveto\n")
+    room.write("pair.01.zones", "")
+    told = room.goes("plates", "pair.pdf", "new", "--dpi", "72", "--no-thin-zones", "--trap-images").err
+    for text in ("/HWResolution", "without settrapzone", "zone 1 lies from 900", "pair.01.zones looks like a file of pair.pdf"):
+        assert told.count(text) == 1, told

@@ -80,8 +80,8 @@ def need_points(part: Part, options: LookOptions) -> None:
     points = width * height * (1 if options.misregister is None else 2)
     if options.enlarge == 1 or points * options.enlarge ** 2 <= MOST_POINTS:
         return
-    raise UsageError(f"--enlarge {options.enlarge} makes {width * options.enlarge} by {height * options.enlarge} points "
-                     f"of this part, and a picture has at most {MOST_POINTS}: --enlarge "
+    raise UsageError(f"--enlarge {options.enlarge} makes {width * options.enlarge} by {height * options.enlarge} "
+                     f"points of this part, and a picture has at most {MOST_POINTS}: --enlarge "
                      f"{max(1, math.isqrt(MOST_POINTS // points))} would fit, or a --part of "
                      f"{math.isqrt(MOST_POINTS) // options.enlarge} samples a side")
 

@@ -10,7 +10,7 @@ from dataclasses import asdict, dataclass
 
 import numpy
 
-from . import content, engine, files, images, job, tools
+from . import content, engine, files, images, job, owner_files, tools
 from .errors import PressError, Status
 from .files import BYTE_ORDER_MARK, bytes_of, free_room, size_text
 from .findings import FAULT, NOTE, WARNING, Finding
@@ -125,6 +125,7 @@ def check_file(source: Source, settings: Settings, book: InkBook, pages: Sequenc
                              "the usual size"))
     for page in pages:
         found += size_findings(source, settings, page)
+    found += owner_files.beside_findings(source.path, source.count, settings)
     found += statement_findings(source, settings, book, pages)
     if len(pages) == source.count and all(source.page(page) for page in pages):
         found += stranger_findings(source, book, pages)
@@ -198,6 +199,7 @@ def statement_findings(source: Source, settings: Settings, book: InkBook, pages:
         for path, text in statements:
             if path:
                 yield from zones_findings(path, text, settings, page if path in own else None)
+        yield from owner_files.zone_findings(statements, source.page(page), settings, page)
         last = page if own else None
         for zone in job.read_all(statements).zones:
             line = job.width_line(zone, settings.dpi)
@@ -216,6 +218,7 @@ def zones_findings(path: str, text: bytes, settings: Settings, page: int | None)
     for stranger in job.read(text).strangers:
         yield Finding("unknown-key", WARNING, page, f"{path}: line {job.line_at(text, stranger.at)}: "
                       f"{job.stranger_line(stranger)}")
+    yield from owner_files.statement_findings(path, text, page)
     if settings.parameters and b"settrapparams" in text:
         yield Finding("parameters", NOTE, page, f"{path}: what it sets by settrapparams counts before the words of the "
                       f"command line")
