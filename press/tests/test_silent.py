@@ -10,10 +10,10 @@ import pytest
 import tifffile
 from conftest import Pages
 from pdf_writer import Pdf, spot
-from press import engine, job, owner_files
+from press import engine, job, owner_files, watch
 from press.findings import Finding
 from press.folder import PageFolder, PageSource
-from press.inks import Ink
+from press.inks import Ink, inks_of_file
 from press.plates import Head
 from press.settings import Settings
 from press.source import PageInfo
@@ -243,3 +243,14 @@ def test_owner_files_are_judged_on_the_way(room: Room) -> None:
     told = room.goes("plates", "pair.pdf", "new", "--dpi", "72", "--no-thin-zones", "--trap-images").err
     for text in ("/HWResolution", "without settrapzone", "zone 1 lies from 900", "pair.01.zones looks like a file of pair.pdf"):
         assert told.count(text) == 1, told
+
+
+def test_files_that_belong_to_a_page_in_a_hot_folder() -> None:
+    """Tables and zones stay in the folder; a profile belongs to no page, and is moved away with its reason."""
+    assert [watch.is_left(name) for name in ("a.inks", "a.zones", "a.pairs", "a.icc", "a.pdf")] == [True, True, True, False, False]
+
+
+def test_blanks_before_a_name_in_a_table(tmp_path: Path) -> None:
+    """A line of a table of inks that is indented is one of its ink, and an indented comment is one."""
+    (tmp_path / "a.inks").write_text("   Warm Red\t0.9\n  # Gold\t1\n")
+    assert list(inks_of_file(str(tmp_path / "a.inks"))) == [b"Warm Red"]

@@ -140,9 +140,9 @@ class Known:
 
 
 def entries_of(path: str) -> list[tuple[int, str]]:
-    """The lines of a table that are no comment, with their numbers."""
-    return [(number, line) for number, line in enumerate(table_lines(path), 1)
-            if line.strip() and not line.startswith("#")]
+    """The lines of a table that are no comment, with their numbers. Blanks before a name are no part of it."""
+    lines = ((number, line.lstrip(" ")) for number, line in enumerate(table_lines(path), 1))
+    return [(number, line) for number, line in lines if line.strip() and not line.startswith("#")]
 
 
 EDITS = ("merge", "rename", "to-process", "drop")

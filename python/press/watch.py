@@ -20,7 +20,7 @@ from .runs import run
 from .settings import Settings
 
 TICK = 0.25
-PAGES, BELONG = (".pdf", ".ps", ".eps", ".ai"), (".inks", ".zones", ".icc")
+PAGES, BELONG = (".pdf", ".ps", ".eps", ".ai"), (".inks", ".zones", ".pairs")
 UNFINISHED = (".part", ".tmp", ".crdownload", ".filepart", "~")
 OWN = ("done", "failed")
 # A file that nobody is seen to close is taken when it has lain so long.
