@@ -8,7 +8,7 @@ from pathlib import Path
 import pytest
 from room import COMMANDS, TOP, Room, needs
 
-PAGES = {"farm.sbatch": "press-farm", "press": "press", "trapper": "trapper"}
+PAGES = {"check": "press-preflight", "farm.sbatch": "press-farm", "press": "press", "trapper": "trapper"}
 # Pages of other packages that they speak of need not be installed.
 PASSED_OVER = ("referenced manual not found", "operating system explicitly specified")
 # What the shell commands share; and the trap editor, which docs/PRESS.md does not list as a command.
