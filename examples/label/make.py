@@ -1,6 +1,8 @@
 #!/usr/bin/env python3
 # SPDX-License-Identifier: Apache-2.0
 """Makes the label: make.py OUT.pdf. Two pages of 252 by 168 points, front and back, in CMYK, a spot colour and a foil.
+make.py OUT.pdf lid makes the jar's lid: a page of that size in CMYK, a dark blue and silver, with bleed, crop marks and a
+colour bar.
 
 Everything knocks out what lies under it, as a PDF does that asks for no overprint. All is reckoned in whole numbers or written
 with few digits, and nothing is compressed, so the file is the same on every machine.
@@ -12,6 +14,11 @@ RED, FOIL = "/Red cs 1 scn", "/Foil cs 1 scn"
 WHITE, BLACK, YELLOW = "0 0 0 0 k", "0 0 0 1 k", "0 .12 1 0 k"
 GREEN, LEAF, SKY = ".85 .1 .9 .1 k", ".6 0 .9 0 k", ".8 .15 0 0 k"
 IMAGE_SIDE = 120
+# The lid: its boxes, its inks and colours, and the patches of its colour bar.
+BLEED, TRIM = (11.5, 11.5, 240.5, 156.5), (20, 20, 232, 148)
+BLUE, SILVER = "/Blue cs 1 scn", "/Silver cs 1 scn"
+NAVY, SCARLET, RICH = "1 .6 0 .2 k", "0 .95 .9 0 k", ".6 .5 .4 1 k"
+PATCHES = ("1 0 0 0 k", "0 1 0 0 k", "0 0 1 0 k", "0 0 0 1 k", BLUE, SILVER, "1 1 0 0 k", "0 1 1 0 k", "1 0 1 0 k")
 
 # An EAN-13: the seven modules of each digit on the left in its two codes, and which of these the first digit asks for.
 ODD = "0001101 0011001 0010011 0111101 0100011 0110001 0101111 0111011 0110111 0001011".split()
@@ -150,6 +157,34 @@ def back():
     ]
 
 
+def marks():
+    """Crop marks at the lid's corners, on every plate, and patches of its inks above it."""
+    left, lower, right, upper = TRIM
+    lines = [f"{x} {y} m {x} {y + 8} l S" for x in (left, right) for y in (1, HEIGHT - 9)]
+    lines += [f"{x} {y} m {x + 8} {y} l S" for x in (1, WIDTH - 9) for y in (lower, upper)]
+    patches = [f"{color} {box(54 + 16 * k, 158.5, 16, 8)}" for k, color in enumerate(PATCHES)]
+    return ["/All CS 1 SCN .25 w", *lines, *patches]
+
+
+def lid():
+    left, lower, right, upper = BLEED
+    words = ("Keep the jar upright and cool, below 18 degrees.", "The lid clicks when the jar is opened first.",
+             "Glass and lid are collected for the next batch.", "Filled by hand at the mill on the river bank.")
+    return [
+        *marks(),
+        BLUE, box(left, lower, right - left, upper - lower),
+        SILVER, circle(68, 102, 36), "f", BLUE, circle(68, 102, 31.5), "f", SILVER, type_at(43, 94, 23, "No 7"),
+        SCARLET, box(118, 62, 104, 76),
+        NAVY, type_at(124, 124, 11, "MARMALADE"),
+        *(type_at(124, 110 - 8 * k, 4, text, "Bold") for k, text in enumerate(words)),
+        YELLOW, type_at(124, 69, 6, "quince-mill.example", "Bold", 0.3),
+        SILVER, box(left, 44, right - left, 3),
+        RICH, box(left, lower, right - left, 44 - lower),
+        WHITE, type_at(26, 29, 10, "OPEN BY HALF A TURN", "Bold", 1.2),
+        type_at(26, 22.5, 4.5, "Best before the date on the rim. Once opened, eat within six weeks.", "Plain"),
+    ]
+
+
 def shading(line, ends):
     return (f"<< /ShadingType 2 /ColorSpace /DeviceCMYK /Coords [{line}] /Extend [true true] /Function "
             f"<< /FunctionType 2 /Domain [0 1] /C0 [{ends[0]}] /C1 [{ends[1]}] /N 1 >> >>")
@@ -163,26 +198,38 @@ def stream(head, data):
     return f"<< {head} /Length {len(data)} >>\nstream\n".encode() + data + b"\nendstream"
 
 
-def objects():
-    def page(contents):
-        return (f"<< /Type /Page /Parent 2 0 R /MediaBox [0 0 {WIDTH} {HEIGHT}] /Contents {contents} 0 R /Resources 7 0 R >>")
+def page(contents, resources, boxes=()):
+    sides = "".join(f" /{name} [{' '.join(map(str, sides))}]" for name, sides in (("MediaBox", (0, 0, WIDTH, HEIGHT)), *boxes))
+    return f"<< /Type /Page /Parent 2 0 R{sides} /Contents {contents} 0 R /Resources {resources} 0 R >>".encode()
 
-    fonts = " ".join(f"/{name} << /Type /Font /Subtype /Type1 /BaseFont /{base} >>"
-                     for name, base in (("Bold", "Helvetica-Bold"), ("Plain", "Helvetica")))
-    resources = (f"<< /Font << {fonts} >> /ColorSpace << /Red {spot('Label#20Red', '0 .95 .85 0')} "
+
+def fonts():
+    return " ".join(f"/{name} << /Type /Font /Subtype /Type1 /BaseFont /{base} >>"
+                    for name, base in (("Bold", "Helvetica-Bold"), ("Plain", "Helvetica")))
+
+
+def of_label():
+    resources = (f"<< /Font << {fonts()} >> /ColorSpace << /Red {spot('Label#20Red', '0 .95 .85 0')} "
                  f"/Foil {spot('Gold#20Foil', '.15 .3 .75 .1')} >> /XObject << /Picture 8 0 R >> "
                  f"/Shading << /Sky {shading('0 168 0 40', ('.95 .3 0 0', '.25 0 .1 0'))} "
                  f"/Panel {shading('12 0 144 0', ('0 .05 .9 0', '0 0 .15 0'))} >> >>")
     image = stream(f"/Type /XObject /Subtype /Image /Width {IMAGE_SIDE} /Height {IMAGE_SIDE} /BitsPerComponent 8 "
                    "/ColorSpace /DeviceCMYK", quince())
     return [b"<< /Type /Catalog /Pages 2 0 R >>", b"<< /Type /Pages /Kids [3 0 R 4 0 R] /Count 2 >>",
-            page(5).encode(), page(6).encode(), stream("", "\n".join(front()).encode()), stream("", "\n".join(back()).encode()),
+            page(5, 7), page(6, 7), stream("", "\n".join(front()).encode()), stream("", "\n".join(back()).encode()),
             resources.encode(), image]
+
+
+def of_lid():
+    resources = (f"<< /Font << {fonts()} >> /ColorSpace << /Blue {spot('PANTONE#20287#20C', '1 .75 .02 .18')} "
+                 f"/Silver {spot('PANTONE#20877#20C', '0 0 0 .4')} /All {spot('All', '1 1 1 1')} >> >>")
+    return [b"<< /Type /Catalog /Pages 2 0 R >>", b"<< /Type /Pages /Kids [3 0 R] /Count 1 >>",
+            page(4, 5, (("BleedBox", BLEED), ("TrimBox", TRIM))), stream("", "\n".join(lid()).encode()), resources.encode()]
 
 
 def main():
     file, places = b"%PDF-1.5\n%\xe2\xe3\xcf\xd3\n", []
-    for number, thing in enumerate(objects(), 1):
+    for number, thing in enumerate(of_lid() if sys.argv[2:] == ["lid"] else of_label(), 1):
         places.append(len(file))
         file += f"{number} 0 obj\n".encode() + thing + b"\nendobj\n"
     start = len(file)

@@ -6,7 +6,7 @@ from pathlib import Path
 
 import numpy as np
 import pytest
-from room import TOP, Room, needs
+from room import LABEL, TOP, Room, needs
 
 from press.folder import PageFolder
 
@@ -15,8 +15,13 @@ INPUTS = Path(__file__).resolve().parent / "inputs"
 
 
 def trapped(room: Room, name: str, *options: str) -> tuple[PageFolder, np.ndarray, np.ndarray]:
-    """A page, and its tints before and after trapping, by plate."""
-    room.goes("plates", INPUTS / f"{name}.pdf", "page", *options)
+    """A page of a test's inputs, and its tints before and after trapping, by plate."""
+    return trapped_file(room, INPUTS / f"{name}.pdf", *options)
+
+
+def trapped_file(room: Room, path: Path, *options: str) -> tuple[PageFolder, np.ndarray, np.ndarray]:
+    """The same of any file."""
+    room.goes("plates", path, "page", *options)
     room.goes("trap", "page")
     page = PageFolder.read(str(room / "page"))
     before, after = (np.stack([255 - array for array in page.plates(done).arrays]) for done in (False, True))
@@ -59,6 +64,18 @@ def test_neighbours_spread_under_silver(room: Room, built: None) -> None:
     page, before, after = trapped(room, "rl-card-mm", "--dpi", "300")
     changed = {ink.name: int((before[at] != after[at]).sum()) for at, ink in enumerate(page.inks)}
     assert changed["PANTONE_287_C"] > 1000 and changed["PANTONE_877_C"] == 0
+
+
+def test_the_lid_of_the_label(room: Room, built: None) -> None:
+    """With the preset of flexo and no more options its small type keeps half of its colour, blue is spread under silver and
+    silver under nothing, and marks and patches stay."""
+    page, before, after = trapped_file(room, LABEL.parent / "lid.pdf", "--preset", "flexo")
+    assert own_of_blue(before, after) >= 0.5
+    changed = {ink.name: int((before[at] != after[at]).sum()) for at, ink in enumerate(page.inks)}
+    assert changed["PANTONE_287_C"] > 10_000 and changed["PANTONE_877_C"] == 0
+    outside, margin = (before != after).any(axis=0), int(11.5 * 600 / 72)
+    outside[margin:-margin, margin:-margin] = False
+    assert not outside.any()
 
 
 def test_inks_that_no_trap_closes_are_warned_of(room: Room) -> None:

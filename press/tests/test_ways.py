@@ -12,10 +12,11 @@ MOST_SECONDS, MOST_PROGRAMS = 60, 25
 PICTURES = (("page", ()), ("traps", ("--traps",)), ("register", ("--misregister", "--part", "most", "--enlarge", "4")))
 
 
-def test_label_is_made_again(room: Room) -> None:
-    """make.py makes label.pdf byte for byte."""
-    room.goes(LABEL.parent / "make.py", "made.pdf")
-    assert (room / "made.pdf").read_bytes() == LABEL.read_bytes()
+@pytest.mark.parametrize("name, words", [("label", ()), ("lid", ("lid",))])
+def test_label_is_made_again(room: Room, name: str, words: tuple[str, ...]) -> None:
+    """make.py makes label.pdf and lid.pdf byte for byte."""
+    room.goes(LABEL.parent / "make.py", "made.pdf", *words)
+    assert (room / "made.pdf").read_bytes() == (LABEL.parent / f"{name}.pdf").read_bytes()
 
 
 def check_composite(room: Room, folder: Path, page: int) -> None:
