@@ -28,7 +28,7 @@ def test_ranges_of_pages(room: Room) -> None:
     """--page takes ranges and several pages."""
     room.sample("twenty.pdf")
     room.goes("all", "--quiet", "--no-proof", "--page", "2-3,5", "twenty.pdf", "pages")
-    assert sorted(os.listdir(room / "pages")) == ["page-002", "page-003", "page-005"]
+    assert sorted(os.listdir(room / "pages")) == ["job.json", "page-002", "page-003", "page-005"]
 
 
 def test_what_is_kept(room: Room) -> None:

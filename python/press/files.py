@@ -21,7 +21,7 @@ LOCK = ".press-lock"
 HEAD_BYTES = 2048
 BYTE_ORDER_MARK = b"\xef\xbb\xbf"
 LEFT_OVER = re.compile(r"\.press-(\d+)-(.*)-[a-z0-9_]{8,10}(\.[^.]*)?")
-LOCK_TRIES, LOCK_WAIT = 10, 0.1
+LOCK_SECONDS, LOCK_WAIT = 1.0, 0.1
 PROBE_BYTES = 1 << 18
 NO_ROOM = (errno.ENOSPC, errno.EDQUOT, errno.EFBIG, errno.EROFS, errno.EIO)
 
@@ -191,10 +191,11 @@ def link_or_copy(source: str, end: str) -> None:
 # Locks
 
 @contextlib.contextmanager
-def locked(path: str, place: str, who: str, shared: bool = False) -> Iterator[None]:
+def locked(path: str, place: str, who: str, shared: bool = False, seconds: float = LOCK_SECONDS) -> Iterator[None]:
     """Holds a lock while the block runs: a file with the number of the process and its command, `who`. The
-    system releases it if the process ends in any way. If another run holds it, the refusal names that run."""
-    handle = take_lock(path, place, fcntl.LOCK_SH if shared else fcntl.LOCK_EX)
+    system releases it if the process ends in any way. If another run holds it for so many seconds, the refusal
+    names that run."""
+    handle = take_lock(path, place, fcntl.LOCK_SH if shared else fcntl.LOCK_EX, seconds)
     os.truncate(handle, 0)
     os.pwrite(handle, f"process {os.getpid()} on {socket.gethostname()}: {who}\n".encode(), 0)
     try:
@@ -207,9 +208,10 @@ def locked(path: str, place: str, who: str, shared: bool = False) -> Iterator[No
         os.close(handle)
 
 
-def take_lock(path: str, place: str, how: int) -> int:
+def take_lock(path: str, place: str, how: int, seconds: float) -> int:
     """The open file of a lock that is held."""
-    for attempt in range(LOCK_TRIES):
+    tries = max(1, round(seconds / LOCK_WAIT))
+    for attempt in range(tries):
         handle = os.open(path, os.O_RDWR | os.O_CREAT | os.O_CLOEXEC, umasked(0o666))
         try:
             fcntl.flock(handle, how | fcntl.LOCK_NB)
@@ -219,7 +221,7 @@ def take_lock(path: str, place: str, how: int) -> int:
         except BlockingIOError as fault:
             # A run that removes the file of a lock holds it for a moment.
             time.sleep(LOCK_WAIT)
-            if attempt == LOCK_TRIES - 1:
+            if attempt == tries - 1:
                 holder = os.pread(handle, 1000, 0).decode("utf-8", "replace").strip() or "its process is not told"
                 os.close(handle)
                 raise PressError(Status.OUTPUT, f"another run is at work here ({holder})", place) from fault

@@ -1,5 +1,6 @@
 # SPDX-License-Identifier: Apache-2.0
 """The folder of a page, and the folder OUT of a run: the names of their files, and what is in them."""
+import contextlib
 import dataclasses
 import json
 import os
@@ -12,6 +13,7 @@ from . import plates
 from .errors import PressError, Status, reason
 from .files import need_folder
 from .inks import Ink
+from .job_record import FAILED, PAGES, Record, file_of, page_of, read_record, write_record
 from .names import from_table, table_name
 from .plates import Head, Plates
 
@@ -164,15 +166,21 @@ class JobFolder:
             raise PressError(Status.OUTPUT, "File exists", self.path)
         os.makedirs(self.path, exist_ok=True)
 
-    def pages(self) -> tuple[dict[int, str], dict[int, str]]:
-        """The folders of the pages that are done and trapped, and of each page that failed the line that says why."""
-        done, failed = {}, {}
+    def pages(self, stale: bool = False) -> tuple[dict[int, str], dict[int, str]]:
+        """The folders of the pages that are done and trapped, and of each page that failed the line that says why.
+        Pages that another file made, or other bytes of the same name, are left out unless `stale` asks for them."""
+        done, failed, file = {}, {}, file_of(record_or_none(self.path))
         for name in sorted(os.listdir(self.path)):
-            found = re.fullmatch(r"page-(\d{3,})(\.failed)?", name)
-            if found and found.group(2):
-                failed[int(found.group(1))] = read_text(self.path, name, WHY).strip()
-            elif found and os.path.isdir(os.path.join(self.path, name, TRAPPED)):
-                done[int(found.group(1))] = os.path.join(self.path, name)
+            found, folder = re.fullmatch(r"page-(\d{3,})(\.failed)?", name), os.path.join(self.path, name)
+            if found is None:
+                continue
+            number, made_of = int(found.group(1)), None if stale or not file else digest_in(folder)
+            if file and made_of and made_of != file.sha256:
+                continue
+            if found.group(2):
+                failed[number] = read_text(folder, WHY).strip()
+            elif os.path.isdir(os.path.join(folder, TRAPPED)):
+                done[number] = folder
         return done, failed
 
     def remove_old(self, number: int) -> None:
@@ -185,13 +193,36 @@ class JobFolder:
             elif os.path.lexists(path):
                 raise PressError(Status.OUTPUT, "stands in the way, and press/all did not make it", path)
 
-    def keep_failed(self, number: int, made: str, why: str) -> None:
-        """Keeps what was made of a page that failed, with the line that says why."""
-        os.makedirs(made, exist_ok=True)
-        with open(os.path.join(made, WHY), "w", encoding="utf-8", errors="surrogateescape") as file:
-            file.write(why + "\n")
-        if not os.path.lexists(self.failed(number)):
-            os.rename(made, self.failed(number))
+    def keep_failed(self, number: int, made: str, why: str, part: Record | None = None) -> None:
+        """Keeps what was made of a page that failed, with the line that says why, and what the record says of it if
+        the page has no record yet. On a full disk that much is kept as goes on it."""
+        with contextlib.suppress(OSError):
+            os.makedirs(made, exist_ok=True)
+            with open(os.path.join(made, WHY), "w", encoding="utf-8", errors="surrogateescape") as file:
+                file.write(why + "\n")
+        with contextlib.suppress(OSError, PressError):
+            found = record_or_none(made) or part
+            if found:
+                pages = {key: {**one, "state": FAILED, "why": why} for key, one in found[PAGES].items()}
+                write_record(made, {**found, PAGES: pages})
+        with contextlib.suppress(OSError):
+            if not os.path.lexists(self.failed(number)):
+                os.rename(made, self.failed(number))
+
+
+def record_or_none(folder: str) -> Record:
+    """The record in a folder; empty if it has none, or a damaged one."""
+    try:
+        return read_record(folder)
+    except PressError:
+        return {}
+
+
+def digest_in(folder: str) -> str | None:
+    """The SHA-256 of the file that a page was made of, if its folder has a record."""
+    record = record_or_none(folder)
+    found = next((page_of(record, int(key)).get("sha256") for key in record.get(PAGES, {}) if key.isdigit()), None)
+    return found if isinstance(found, str) else None
 
 
 def read_text(*path: str) -> str:

@@ -8,14 +8,16 @@ from dataclasses import dataclass
 from . import job, preflight, tiff, tools
 from .errors import PressError, Status, UsageError
 from .events import FindingMade, Observer, RunStarted, silent
-from .files import folder_beside, head_of, put_folder
+from .files import folder_beside, put_folder
 from .findings import WARNING, Finding, refusal_for
 from .folder import TABLE, PageFolder, PageSource
 from .inks import InkBook, Separation, open_book, unsure_lines
+from .job_record import input_file, part_of, write_record
 from .layout import lay_out
 from .names import MOST_PLATES, PROCESS, job_names
-from .page import Page, layout_of, prepare, write_folder, write_page
+from .page import Page, layout_of, prepare, record_of, write_folder, write_page
 from .plates import is_blank, read_plates, write_pgm
+from .recorded import options_from, without_run_only
 from .settings import Settings
 from .source import open_source
 
@@ -55,7 +57,7 @@ def make_page(path: str, folder: str, number: int = 1, settings: Settings = Sett
               observer: Observer = silent) -> PageFolder:
     """Makes a page of a file, counted from 1, into a folder that is new or empty: its plates, its job and its
     table of colorants."""
-    head_of(path)
+    file = input_file(path)
     judge_place(folder, force)
     book = open_book(settings, path)
     job.own_statements(settings, path, number)
@@ -69,7 +71,9 @@ def make_page(path: str, folder: str, number: int = 1, settings: Settings = Sett
         page = prepare(source, number, settings, book, scratch)
         report(path, preflight.ghostscript_findings(page), observer)
         layout = layout_of(page, settings)
-        write_page(page, settings, made, layout)
+        done = record_of(page, settings, write_page(page, settings, made, layout))
+        options = without_run_only(options_from(settings, os.path.dirname(folder)))
+        write_record(made, part_of(file, number, options, done))
         report(path, findings_of_inks(page, book), observer)
         report(path, layout.findings(number, settings.dpi), observer)
         shutil.rmtree(scratch)

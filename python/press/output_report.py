@@ -1,7 +1,6 @@
 # SPDX-License-Identifier: Apache-2.0
 """The report in JSON beside each output: its inks and their coverage, what trapping changed, and digests."""
 import contextlib
-import hashlib
 import json
 import os
 from collections.abc import Iterator, Mapping
@@ -11,6 +10,7 @@ import numpy as np
 
 from .command import version
 from .files import need_room, write_text
+from .job_record import digest_of
 from .names import readable
 from .plates import Array, release
 from .trapped_page import TrappedPage
@@ -26,15 +26,6 @@ def full_disk_refused(folder: str, what: str) -> Iterator[None]:
     except (OSError, RuntimeError):
         need_room(folder, what)
         raise
-
-
-def digest_of(path: str) -> str:
-    """The SHA-256 of a file."""
-    found = hashlib.sha256()
-    with open(path, "rb") as file:
-        while block := file.read(1 << 20):
-            found.update(block)
-    return found.hexdigest()
 
 
 def coverage(plate: Array, maxval: int = 255) -> float:

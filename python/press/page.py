@@ -3,16 +3,19 @@
 import os
 from collections.abc import Sequence
 from dataclasses import dataclass, replace
+from typing import Any
 
 from . import job
 from .content import coverage_of, intent_profile
 from .errors import PressError, UsageError
 from .files import size_text
-from .folder import JOB, ZONES, PageFolder, PageSource, write_table
+from .folder import JOB, TABLE, ZONES, PageFolder, PageSource, write_table
 from .icc import need_press_profile
 from .inkedits import InkEdits, edit_plates, pairs_of
 from .inks import Ink, InkBook
+from .job_record import DONE, digest_of
 from .layout import Layout, lay_out, trap_box
+from .names import readable
 from .pairs import directed, pairs_file, read_pairs
 from .plates import Plates, write_pgm
 from .rects import Rect
@@ -109,6 +112,17 @@ def write_folder(folder: str, source: PageSource, inks: tuple[Ink, ...], layout:
     layout.write(os.path.join(folder, ZONES))
     write_table(folder, source, inks)
     return PageFolder.read(folder)
+
+
+def record_of(page: Page, settings: Settings, made: PageFolder) -> dict[str, Any]:
+    """What the record of a job says of a page: its box in points of the PDF, its pixels, its inks, and the digests of
+    its job and its table as they were made."""
+    points = [round(side, 4) for side in page.info.box(settings.box)[0]] if page.info else None
+    inks = [{"name": readable(ink.colorant), "job_name": ink.name, "density": ink.density, "kind": ink.kind,
+             "role": ink.role, "blank": not ink.has_ink} for ink in made.inks]
+    return {"state": DONE, "box": {"name": settings.box, "points": points}, "resolution": settings.dpi,
+            "width": made.head.width, "height": made.head.height, "inks": inks,
+            "digests": {"job": digest_of(made.file(JOB)), "table": digest_of(made.file(TABLE))}}
 
 
 def room_line(size: int, free: int) -> str:

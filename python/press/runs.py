@@ -14,15 +14,16 @@ from collections.abc import Iterator, Sequence
 from dataclasses import dataclass
 from multiprocessing.connection import Connection
 
-from . import engine, look, page as pages_of_source, pdf_beside, preflight, proof, tiff, tools
+from . import engine, identity, job_record, look, page as pages_of_source, pdf_beside, preflight, proof, tiff, tools
 from .errors import PressError, Status, reason
 from .events import (Event, FindingMade, Observer, PageDone, PageFailed, RunDone, RunStarted, StepDone, StepStarted,
                      Warned, silent)
-from .files import LOCK, disk_use, folder_beside, free_room, head_of, locked, sweep
+from .files import LOCK, disk_use, folder_beside, free_room, locked, sweep
 from .findings import Finding, refusal_for
 from .folder import TIFF, TRAPPED, WARNINGS, JobFolder, PageFolder, read_table
 from .inks import InkBook, open_book
 from .names import PROCESS, clean
+from .recorded import options_from, without_run_only
 from .settings import Settings
 from .source import Source, open_source
 
@@ -83,6 +84,7 @@ class StepFailed(Exception):
 class PageWork:
     """The work on one page of a run."""
 
+    given: identity.Input
     source: Source
     settings: Settings
     book: InkBook
@@ -142,6 +144,7 @@ class PageWork:
             os.mkdir(folder)
             layout = pages_of_source.layout_of(page, self.settings)
             made = pages_of_source.write_page(page, self.settings, folder, layout)
+            self.write_record(page, made)
             for one in layout.findings(self.number, self.settings.dpi):
                 self.found.append(one)
                 self.observer(FindingMade(one))
@@ -161,6 +164,21 @@ class PageWork:
         if self.settings.proof:
             self.make_part(made)
         return trapped.report
+
+    def write_record(self, page: pages_of_source.Page, made: PageFolder) -> None:
+        """Keeps the page's part of the job's record in its folder."""
+        job_record.write_record(made.path, self.part(pages_of_source.record_of(page, self.settings, made)))
+
+    def part(self, page: job_record.Record) -> job_record.Record:
+        """The record of the page, of which so much is known."""
+        options = without_run_only(options_from(self.settings, self.job.path))
+        return job_record.part_of(self.given.file, self.number, options, page)
+
+    def need_same(self) -> None:
+        """Refuses the page if its file was replaced since the start of the run."""
+        line = self.given.changed_line()
+        if line:
+            raise StepFailed("press-all", PressError(Status.INPUT, line))
 
     def make_part(self, made: PageFolder) -> None:
         """What the page gives to the proof sheet. If it cannot be drawn, of a page that is too large for this
@@ -196,9 +214,12 @@ class PageWork:
                 except PressError as refusal:
                     raise StepFailed("press-all", refusal) from refusal
                 report = self.make(folder)
+                self.need_same()
             except StepFailed as failed:
-                why = f"{failed.command}: {failed.refusal}".replace(folder, self.job.failed(self.number))
-                self.job.keep_failed(self.number, folder, why)
+                changed = self.given.changed_line()
+                why = f"press-all: {changed}" if changed else f"{failed.command}: {failed.refusal}"
+                why = why.replace(folder, self.job.failed(self.number))
+                self.job.keep_failed(self.number, folder, why, self.part({}))
                 return PageFailed(self.number, failed.refusal.status, why)
             if self.settings.tiff_only:
                 drop_plates(folder)
@@ -301,7 +322,7 @@ def keep_lost(todo: PageWork, end: PageDone | PageFailed) -> None:
     if isinstance(end, PageFailed) and not os.path.lexists(todo.job.failed(todo.number)):
         sweep(todo.job.path)
         with folder_beside(todo.job.path, inside=True) as made:
-            todo.job.keep_failed(todo.number, os.path.join(made, "page"), end.why)
+            todo.job.keep_failed(todo.number, os.path.join(made, "page"), end.why, todo.part({}))
 
 
 # The run
@@ -323,7 +344,8 @@ def run(path: str, out: str, settings: Settings = Settings(), pages: Sequence[in
     """Goes the whole way for the pages of a file, all or those that are asked for, counted from 1. Each page
     that is done is in OUT/page-001 and so on. Refuses a file that cannot be read; a page that fails is in
     the result."""
-    head_of(path)
+    given, job = identity.Input.take(path), JobFolder(out)
+    identity.judge(job, job_record.read_record(out), given.file, settings.force, bool(pages))
     tools.program("trap")
     with tempfile.TemporaryDirectory(prefix="press-") as scratch:
         source = open_source(path, scratch, settings.time)
@@ -338,17 +360,39 @@ def run(path: str, out: str, settings: Settings = Settings(), pages: Sequence[in
         tell(RunStarted(path, tuple(numbers), source.count, source.converted))
         book = open_book(settings, path)
         found = check_file(source, settings, book, numbers, tell)
-        job = JobFolder(out)
         job.make()
         with page_locks(job, pages):
-            todo = [PageWork(source, settings, book, job, list(found), number, silent) for number in numbers]
-            ends = do_pages(todo, settings.jobs, tell)
+            begin(job, given, source.count, settings, pages)
+            todo = [PageWork(given, source, settings, book, job, list(found), number, silent) for number in numbers]
+            ends = finish(given, todo, do_pages(todo, settings.jobs, tell), tell)
             if settings.proof and not is_one_of_many():
                 make_sheet(out, observer)
             no_pdf = make_pdf(source, out, settings, observer) if settings.pdf and not is_one_of_many() else None
     result = RunResult(ends, tuple(findings), no_pdf)
     observer(RunDone(result.failed))
     return result
+
+
+def begin(job: JobFolder, given: identity.Input, count: int, settings: Settings, pages: Sequence[int]) -> None:
+    """Makes OUT the folder of this file. A farm has done so for the runs of its pages."""
+    if os.environ.get(HELD) == os.path.realpath(job.path):
+        identity.need_same(job, given.file)
+    else:
+        identity.claim(job, given.file, count, settings, pages)
+
+
+def finish(given: identity.Input, todo: Sequence[PageWork], ends: dict[int, PageDone | PageFailed],
+           observer: Observer) -> dict[int, PageDone | PageFailed]:
+    """Records the pages of a run; those of a file that was replaced meanwhile fail. Answers how each ended."""
+    line = given.changed_line()
+    if line and todo:
+        done = [number for number, end in ends.items() if isinstance(end, PageDone)]
+        for failed in identity.fail_mixed(todo[0].job, done, line):
+            ends[failed.page] = failed
+            observer(failed)
+    if todo and os.environ.get(HELD) != os.path.realpath(todo[0].job.path):
+        identity.gather(todo[0].job)
+    return ends
 
 
 def make_pdf(source: Source, out: str, settings: Settings, observer: Observer) -> str | None:

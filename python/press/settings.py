@@ -185,7 +185,7 @@ class Settings:
     drop: tuple[str, ...] = ()
     merge_suffixes: bool = False
     inks: str | None = None
-    # Zones and parameters.
+    # Zones and parameters. The parameters have what the preset sets.
     zones: str | None = None
     pairs: str | None = None
     trap_images: bool = False
@@ -194,6 +194,7 @@ class Settings:
     only_zones: bool = False
     thin_zones: bool = True
     layer: tuple[str, ...] = ()
+    preset: str | None = None
     parameters: Mapping[str, Value] = field(default_factory=dict)
     # The engine: threads, rows of a band, and the radius of presscheck in samples.
     workers: int | None = None
@@ -205,9 +206,12 @@ class Settings:
     pdf: bool = False
     proof: bool = True
     look: bool = False
-    # A run: whether warnings refuse a page, and how many pages are done at once.
+    # A run: whether warnings refuse a page, how many pages are done at once, whether what another file or other
+    # options made is replaced, and whether pages that look the same are kept.
     strict: bool = False
     jobs: int = 1
+    force: bool = False
+    only_changed: bool = False
 
     @classmethod
     def of(cls, options: argparse.Namespace) -> "Settings":

@@ -1,15 +1,12 @@
 # SPDX-License-Identifier: Apache-2.0
 """A trapped page for the outputs: its plates before and after, and how they were drawn."""
-import json
 import os
 from dataclasses import dataclass
-from typing import Any
 
 from .errors import PressError, Status
 from .folder import PageFolder
+from .job_record import page_of, read_record
 from .plates import Plates
-
-RECORD = "job.json"
 
 
 @dataclass(frozen=True)
@@ -47,22 +44,15 @@ class TrappedPage:
         return self.after.width, self.after.height
 
 
-def text_in(record: dict[str, Any], name: str) -> str | None:
-    """A text of the record, or None."""
-    value = record.get(name)
-    return value if isinstance(value, str) and value else None
-
-
-def how_drawn(folder: str) -> Drawn:
-    """What the page folder, or the folder of the run above it, records of how the page was drawn."""
-    for place in (folder, os.path.dirname(os.path.abspath(folder))):
-        try:
-            with open(os.path.join(place, RECORD), encoding="utf-8") as file:
-                record = json.load(file)
-        except (OSError, ValueError):
+def how_drawn(folder: str, number: int) -> Drawn:
+    """What the record in the page's folder, or that of the run above it, has of how the page was drawn."""
+    above = os.path.dirname(os.path.abspath(folder))
+    for place, out in ((folder, above), (above, above)):
+        page = page_of(read_record(place), number)
+        if not page:
             continue
-        if isinstance(record, dict):
-            return Drawn(text_in(record, "box"), text_in(record, "digest"), text_in(record, "icc"))
+        box, icc = page.get("box", {}).get("name"), page.get("options", {}).get("icc")
+        return Drawn(box, page.get("sha256"), os.path.relpath(os.path.join(out, icc)) if icc else None)
     return Drawn()
 
 
@@ -72,4 +62,4 @@ def read_trapped_page(path: str) -> TrappedPage:
     folder.need_trapped()
     if folder.head.maxval != 255:
         raise PressError(Status.PLATES, f"maxval {folder.head.maxval}: this output is made of plates of 8 bits", path)
-    return TrappedPage(folder, how_drawn(path), folder.plates(), folder.plates(True))
+    return TrappedPage(folder, how_drawn(path, folder.source.page), folder.plates(), folder.plates(True))

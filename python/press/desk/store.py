@@ -7,7 +7,6 @@ made from the folders' names, so that they stay the same when the server starts 
 from __future__ import annotations
 
 import hashlib
-import json
 import os
 import tempfile
 import threading
@@ -20,8 +19,8 @@ from pathlib import Path
 from typing import Any
 
 from press.errors import PressError
-from press.files import locked, write_text
 from press.folder import JOB, JSON, REPORT, TABLE, TRAPPED, WARNINGS, JobFolder, read_table, read_text
+from press.job_record import DESK, changing_record, read_record
 from press.job_language import SCALE
 from press.names import readable
 from press.settings import PARAMETERS, PRESETS, house_folder, preset_values
@@ -34,8 +33,6 @@ from .uploads import Queue, Upload, sweep
 MOST_OPEN = 12
 """Pages that are open at once; the one that was used longest ago is closed first."""
 MOST_NOTE, MOST_NAME, MOST_NOTES = 2000, 100, 500
-RECORD = "job.json"
-SAID = "desk"
 VERDICTS = ("approved", "rejected")
 DOWNLOADS = {"report": ("Report", REPORT), "report.json": ("Report as JSON", JSON)}
 ARCHIVE = "plates.zip"
@@ -172,7 +169,8 @@ class Store:
         said = self._said(place)
         approval = said.get("approval")
         if approval:
-            approval = {**approval, "current": approval.get("digest") == digest_of(page)}
+            lapsed = "lapsed" in approval
+            approval = {**approval, "current": not lapsed and approval.get("digest") == digest_of(page)}
         downloads = [{"kind": kind, "title": title} for kind, (title, name) in DOWNLOADS.items()
                      if (place.folder / TRAPPED / name).is_file()]
         downloads.append({"kind": ARCHIVE, "title": "Trapped plates and their job (ZIP)"})
@@ -191,16 +189,13 @@ class Store:
     # What people say of a page
 
     def _said(self, place: Place) -> dict[str, Any]:
-        record = read_record(place.job)
-        found = record.get(SAID, {}).get(str(place.number), {})
+        found = read_record(str(place.job)).get(DESK, {}).get(str(place.number), {})
         return dict(found) if isinstance(found, dict) else {}
 
     def _say(self, place: Place, said: Mapping[str, Any]) -> None:
         """Writes what is said of a page into the job's record; all else in it stays."""
-        with self.lock, locked(str(place.job / ".press-desk-lock"), str(place.job), "press-desk"):
-            record = read_record(place.job)
-            record.setdefault(SAID, {})[str(place.number)] = dict(said)
-            write_text(str(place.job / RECORD), json.dumps(record, indent=1, ensure_ascii=False) + "\n")
+        with self.lock, changing_record(str(place.job)) as record:
+            record.setdefault(DESK, {})[str(place.number)] = dict(said)
 
     def approve(self, key: str, body: Mapping[str, Any]) -> None:
         """Approves or rejects the page as it is now."""
@@ -293,15 +288,6 @@ def pages_of(folder: Path) -> list[tuple[int, Path, str]]:
     pages = [(number, Path(path), "") for number, path in done.items()]
     pages += [(number, folder, why or "failed") for number, why in failed.items() if number not in done]
     return sorted(pages)
-
-
-def read_record(job: Path) -> dict[str, Any]:
-    """The record of a job; empty if it has none."""
-    try:
-        found = json.loads((job / RECORD).read_text(encoding="utf-8"))
-    except (OSError, ValueError):
-        return {}
-    return found if isinstance(found, dict) else {}
 
 
 def now() -> str:

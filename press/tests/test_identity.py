@@ -1,0 +1,170 @@
+# SPDX-License-Identifier: Apache-2.0
+"""The record of a job, and the file that a folder OUT belongs to."""
+import json
+import os
+import shutil
+from pathlib import Path
+from typing import Any
+
+import pytest
+from press import identity, job_record, recorded
+from press.errors import PressError
+from press.folder import JobFolder
+from press.settings import Settings, parameters
+from room import Room
+from small_pdf import page, pdf
+
+ALL = ("all", "--quiet", "--no-proof", "--dpi", "72")
+GRAY, CYAN, PAIR = "0.4 g 10 10 60 20 re f", "1 0 0 0 k 10 10 60 20 re f", "1 0 0 0 k 10 10 40 28 re f 0 1 0 0 k 50 10 40 28 re f"
+
+
+def pages_of(path: Path, *contents: str) -> None:
+    """Writes a PDF of pages with these contents."""
+    pdf(str(path), [page([], one) for one in contents])
+
+
+def record(folder: Path) -> dict[str, Any]:
+    """The record in a folder."""
+    found: dict[str, Any] = json.loads((folder / "job.json").read_text(encoding="utf-8"))
+    return found
+
+
+@pytest.mark.plain
+def test_a_record_keeps_what_it_does_not_know(tmp_path: Path) -> None:
+    """Keys of other commands stay, names need not be UTF-8, and a damaged record is refused and stays."""
+    with job_record.changing_record(str(tmp_path)) as found:
+        found.update(file={"name": "a\udcff\n.pdf", "bytes": 1, "sha256": "00"}, later={"key": [1]})
+    assert (tmp_path / "job.json").read_bytes().decode("utf-8").startswith('{\n "schema": 1,')
+    with job_record.changing_record(str(tmp_path)) as found:
+        found["pages"] = {}
+    kept = job_record.read_record(str(tmp_path))
+    assert kept["later"] == {"key": [1]} and job_record.file_of(kept) == job_record.InputFile("a\udcff\n.pdf", 1, "00")
+    for text in ("{", "[1]", '{"pages": 1}'):
+        (tmp_path / "job.json").write_text(text)
+        with pytest.raises(PressError, match="no record of a job"), job_record.changing_record(str(tmp_path)):
+            pass
+        assert (tmp_path / "job.json").read_text() == text and os.listdir(tmp_path) == ["job.json"]
+
+
+@pytest.mark.plain
+def test_options_come_back(tmp_path: Path, monkeypatch: pytest.MonkeyPatch) -> None:
+    """Settings that are recorded are the same when they are read again, from another folder too."""
+    monkeypatch.chdir(tmp_path)
+    (tmp_path / "own.zones").write_text("")
+    (tmp_path / "below").mkdir()
+    given = Settings(dpi=300, box="trim", density=("A B=1.5", "C=2"), zones="own.zones", preset="offset", strict=True, over_images=False,
+                     proof=False, parameters=parameters("offset", width="0.1mm"))
+    options = recorded.options_from(given, "out")
+    assert options["zones"] == "../own.zones" and options["width"] == "0.1mm" and "step" not in options
+    assert recorded.settings_from(options, "out") == given
+    monkeypatch.chdir(tmp_path / "below")
+    assert recorded.settings_from(options, "../out") == given.but(zones="../own.zones")
+
+
+@pytest.mark.usefixtures("built")
+def test_record_of_a_run(room: Room) -> None:
+    """The file, its options, and for each page its box, resolution and inks, in OUT and in the folder of the page."""
+    room.sample("cropped.pdf", "two.pdf")
+    room.goes(*ALL, "--box", "crop", "cropped.pdf", "out")
+    data = (room / "cropped.pdf").read_bytes()
+    found = record(room / "out")
+    assert found["file"] == {"name": "cropped.pdf", "bytes": len(data), "sha256": job_record.digest_of(str(room / "cropped.pdf"))}
+    assert found["options"] == {"dpi": 72, "box": "crop", "no-proof": True}
+    one = found["pages"]["1"]
+    assert one["box"] == {"name": "crop", "points": [10, 5, 110, 43]} and (one["resolution"], one["width"], one["height"]) == (72, 100, 38)
+    assert [(ink["name"], ink["kind"], ink["blank"]) for ink in one["inks"]] == [
+        ("Cyan", "Normal", False), ("Magenta", "Normal", False), ("Yellow", "Normal", True), ("Black", "Normal", True)]
+    part = record(room / "out/page-001")
+    assert part["pages"] == {"1": one} and part["file"] == found["file"]
+    room.goes("plates", "two.pdf", "two", "--dpi", "72")
+    assert {ink["name"] for ink in record(room / "two")["pages"]["1"]["inks"]} >= {"Warm Red", "Gold Foil"}
+
+
+@pytest.mark.usefixtures("built")
+def test_a_folder_belongs_to_one_file(room: Room) -> None:
+    """Pages of another file are refused, with and without their record; --force replaces them."""
+    pages_of(room / "first.pdf", GRAY, CYAN, PAIR)
+    pages_of(room / "second.pdf", PAIR)
+    room.goes("all", "--quiet", "--dpi", "72", "first.pdf", "out")
+    line = r"press-all: out: has the pages of first\.pdf, and not of second\.pdf: take another folder \(--force replaces them\)"
+    room.refused(8, line, *ALL, "second.pdf", "out")
+    kept = (room / "out/job.json").read_bytes()
+    (room / "out/job.json").unlink()
+    room.refused(8, line, *ALL, "second.pdf", "out")
+    (room / "out/job.json").write_bytes(kept)
+    room.goes("all", "--quiet", "--dpi", "72", "--force", "second.pdf", "out")
+    assert sorted(os.listdir(room / "out")) == ["job.json", "page-001", "proof.html"]
+    assert record(room / "out")["file"]["name"] == "second.pdf" and list(record(room / "out")["pages"]) == ["1"]
+    sheet = (room / "out/proof.html").read_text()
+    assert "Proof of second.pdf" in sheet and "first.pdf" not in sheet
+
+
+@pytest.mark.usefixtures("built")
+def test_other_bytes_of_the_name(room: Room) -> None:
+    """Pages are made anew, those that the file has no more are removed, and approvals lapse."""
+    pages_of(room / "job.pdf", GRAY, CYAN, PAIR)
+    room.goes(*ALL, "--pdf", "job.pdf", "out")
+    with job_record.changing_record(str(room / "out")) as found:
+        found["desk"] = {"1": {"approval": {"verdict": "approved", "name": "Ada"}, "notes": [{"text": "thin"}]}}
+    room.goes(*ALL, "job.pdf", "out")
+    assert "lapsed" not in record(room / "out")["desk"]["1"]["approval"]
+    before = record(room / "out")["file"]["sha256"]
+    pages_of(room / "job.pdf", PAIR, GRAY)
+    room.goes(*ALL, "job.pdf", "out")
+    assert sorted(os.listdir(room / "out")) == ["job.json", "page-001", "page-002"]
+    found = record(room / "out")
+    assert "lapsed" in found["desk"]["1"]["approval"] and found["desk"]["1"]["notes"] == [{"text": "thin"}]
+    assert {one["sha256"] for one in found["pages"].values()} == {found["file"]["sha256"]} != {before}
+
+
+@pytest.mark.usefixtures("built")
+def test_a_page_of_other_bytes(room: Room) -> None:
+    """One page of a file with other bytes is refused; by --force it is made, and the preview leaves the old pages out."""
+    pages_of(room / "job.pdf", GRAY, CYAN)
+    room.goes(*ALL, "job.pdf", "out")
+    pages_of(room / "job.pdf", PAIR, CYAN)
+    room.refused(8, r"press-all: out: its pages are of other bytes of job\.pdf \(SHA-256 [0-9a-f]{12}\.\. then, [0-9a-f]{12}\.\. now\): .*",
+                 *ALL, "--page", "1", "job.pdf", "out")
+    room.goes("all", "--quiet", "--dpi", "72", "--page", "1", "--force", "job.pdf", "out")
+    assert list(JobFolder(str(room / "out")).pages()[0]) == [1] and (room / "out/page-002").is_dir()
+    assert 'id="page-2"' not in (room / "out/proof.html").read_text() and 'id="page-1"' in (room / "out/proof.html").read_text()
+
+
+def replaced_by(room: Room, moment: str) -> dict[str, str]:
+    """The environment of a run in which the PDF is replaced when page 2 is trapped, in place or by a new file."""
+    program = os.path.realpath(room.programs / "trap")
+    room.script("trap", f'#!/bin/sh\ncase "$*" in *page.job*) if grep -q "Page 2 of" page.job; then {moment}; fi ;; esac\nexec "{program}" "$@"\n')
+    return {"TRAP_BIN": str(room.beside / "stand-ins")}
+
+
+@pytest.mark.usefixtures("built")
+@pytest.mark.parametrize("how", ["cp", "mv", "rm"])
+def test_a_file_that_is_replaced_while_it_is_processed(room: Room, how: str) -> None:
+    """No page of the run is called done, each has its line, and the next run makes all pages of the new bytes."""
+    pages_of(room / "job.pdf", GRAY, CYAN, PAIR)
+    pages_of(room / "later.pdf", PAIR, PAIR, PAIR)
+    shutil.copyfile(room / "later.pdf", room / "kept.pdf")
+    moment = f"rm -f '{room / 'job.pdf'}'" if how == "rm" else f"[ ! -e '{room / 'later.pdf'}' ] || {how} '{room / 'later.pdf'}' '{room / 'job.pdf'}'"
+    done = room.run(*ALL, "job.pdf", "out", env=replaced_by(room, moment))
+    what = "the file was taken away while it was processed" if how == "rm" else "the file was replaced while it was processed"
+    assert done.status == 1 and done.out.count("failed: press-all: job.pdf: " + what) == 3, done
+    assert sorted(name for name in os.listdir(room / "out") if name.startswith("page")) == [f"page-00{page}.failed" for page in (1, 2, 3)]
+    shutil.copyfile(room / "kept.pdf", room / "job.pdf")
+    room.goes(*ALL, "job.pdf", "out")
+    assert sorted(os.listdir(room / "out")) == ["job.json", "page-001", "page-002", "page-003"]
+    assert (room / "out/page-001/Cyan.pgm").read_bytes() == (room / "out/page-003/Cyan.pgm").read_bytes()
+
+
+@pytest.mark.plain
+def test_digests_are_taken_again_only_if_the_system_shows_a_change(tmp_path: Path, monkeypatch: pytest.MonkeyPatch) -> None:
+    """A file that was written to long before the start, and not since, is not read a second time."""
+    path = tmp_path / "job.pdf"
+    path.write_bytes(b"one")
+    os.utime(path, ns=(0, 0))
+    taken = identity.Input.take(str(path))
+    monkeypatch.setattr(identity, "RACY_NS", -10**12)
+    assert taken.is_untouched() and taken.changed_line() is None
+    path.write_bytes(b"one")
+    assert not taken.is_untouched() and taken.changed_line() is None
+    path.write_bytes(b"two")
+    assert "the file was replaced while it was processed (SHA-256 7692c3ad3540.. at the start, 3fc4ccfe7458.. now)" in str(taken.changed_line())
