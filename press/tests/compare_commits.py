@@ -10,6 +10,9 @@ the status is 1 then. Times and sizes on the disk in printed lines are left asid
   --dpi N       the resolution, 72 where it is left out
   --only TEXT   the files alone whose names have this text in them; it may be given several times
   --small, --hostile, --inputs   these files alone; all where none of these options is given
+  --both OPTION an option that both commits are given, --both=--width=2pt say; it may be given several times
+  --two OPTION  the same for the second commit alone, --two=--no-thin-zones say, by which it does what the first one does
+  --aside NAME  files of this name are left aside; it may be given several times
   --keep DIR    keeps in DIR what the commits made
 """
 import argparse
@@ -120,9 +123,10 @@ def files_differ(one: Path, two: Path) -> str | None:
     return None if texts[0] == texts[1] else "text"
 
 
-def folders_differ(one: Path, two: Path) -> Iterator[str]:
-    """How what two runs made differs."""
-    first, second = ({str(path.relative_to(place)) for path in place.rglob("*") if path.is_file()} for place in (one, two))
+def folders_differ(one: Path, two: Path, aside: list[str]) -> Iterator[str]:
+    """How what two runs made differs, but for files of some names."""
+    first, second = ({str(path.relative_to(place)) for path in place.rglob("*") if path.is_file() and path.name not in aside}
+                     for place in (one, two))
     for name in sorted(first ^ second):
         yield f"{name}: only {'the first' if name in first else 'the second'} commit has it"
     for name in sorted(first & second):
@@ -166,14 +170,14 @@ def programs() -> Path:
     return Path(named).resolve() if named else TOP / "out" / "release"
 
 
-def compare(name: str, inputs: Path, commits: tuple[Commit, Commit], dpi: str) -> list[str]:
+def compare(name: str, inputs: Path, commits: tuple[Commit, Commit], options: argparse.Namespace) -> list[str]:
     """How the commits differ on a file."""
     found = []
-    for command, options in (("check", ["--dpi", dpi]), ("all", ["--dpi", dpi, "--look"])):
+    for command, words in (("check", ["--dpi", options.dpi, *options.both]), ("all", ["--dpi", options.dpi, *options.both, "--look"])):
         ends = []
-        for commit in commits:
+        for commit, own in zip(commits, ([], options.two_options)):
             place = [os.path.relpath(commit.out / name, inputs)] if command == "all" else []
-            ends.append(commit.run(command, inputs, [*options, "--", name, *place]))
+            ends.append(commit.run(command, inputs, [*words, *own, "--", name, *place]))
             ends[-1].stdout, ends[-1].stderr = (text.replace(place[0], "OUT") if place else text
                                                 for text in (ends[-1].stdout, ends[-1].stderr))
         one, two = ends
@@ -181,7 +185,7 @@ def compare(name: str, inputs: Path, commits: tuple[Commit, Commit], dpi: str) -
             found.append(f"{command}: status {one.returncode} and {two.returncode}: {one.stderr[-300:]} {two.stderr[-300:]}")
         found += lines_differ(f"{command}: standard output", one.stdout, two.stdout)
         found += lines_differ(f"{command}: standard error", one.stderr, two.stderr)
-    return found + list(folders_differ(commits[0].out / name, commits[1].out / name))
+    return found + list(folders_differ(commits[0].out / name, commits[1].out / name, options.aside))
 
 
 def write_inputs(folder: Path, options: argparse.Namespace) -> list[str]:
@@ -208,6 +212,9 @@ def parsed() -> argparse.Namespace:
     parser.add_argument("two")
     parser.add_argument("--dpi", default="72")
     parser.add_argument("--only", action="append")
+    parser.add_argument("--both", action="append", default=[])
+    parser.add_argument("--two", action="append", dest="two_options", default=[])
+    parser.add_argument("--aside", action="append", default=[])
     parser.add_argument("--keep", type=Path)
     for name in ("--small", "--hostile", "--inputs"):
         parser.add_argument(name, action="store_true")
@@ -226,7 +233,7 @@ def main() -> int:
         try:
             names = write_inputs(place / "inputs", options)
             with ThreadPoolExecutor(JOBS) as pool:
-                for name, found in zip(names, pool.map(lambda name: compare(name, place / "inputs", commits, options.dpi), names)):
+                for name, found in zip(names, pool.map(lambda name: compare(name, place / "inputs", commits, options), names)):
                     print(f"{name}: {'the same' if not found else 'DIFFERENT'}", flush=True)
                     for line in found:
                         print(f"    {line}", flush=True)
