@@ -10,7 +10,9 @@ def test_order_of_what_is_told(room: Room) -> None:
     room.sample("two.pdf")
     room.write("told.inks", "Warm Red\t0.9\nGold Foil\t1.1\tOpaque\n")
     done = room.goes("plates", "two.pdf", "inks", "--inks", "told.inks", "--density", "Warm Red=0.8", "--kind", "Gold_Foil=OpaqueIgnore")
-    assert done.err == ""
+    assert [line.partition(": page 1: ")[2] for line in done.err.splitlines()] == [
+        "the kind Opaque of Gold Foil (told.inks, line 2) gives way to OpaqueIgnore (the command line)",
+        "the density 0.9 of Warm Red (told.inks, line 1) gives way to 0.8 (the command line)"]
     job = (room / "inks" / "page.job").read_text()
     assert "/Warm_Red << /NeutralDensity 0.8 >>" in job
     assert "/Gold_Foil << /NeutralDensity 1.1 /ColorantType /OpaqueIgnore >>" in job
@@ -20,7 +22,7 @@ def test_warnings_of_inks(room: Room) -> None:
     """An ink that the page does not have, a guessed density and a kind taken from a name are warned of, each once."""
     room.sample("two.pdf")
     told = room.goes("plates", "two.pdf", "inks", "--kind", "Silver=Transparent").err
-    assert "no colorant of the page is called Silver" in told
+    assert "no colorant of the file is called Silver" in told
     assert len(re.findall("Warm Red is not told; 0.98 is a guess", told)) == 1
     assert len(re.findall("Gold Foil is a technical ink by its name, and is taken as OpaqueIgnore", told)) == 1
 

@@ -4,7 +4,7 @@ import re
 
 import pytest
 
-from press import job
+from press import job, precedence
 from press.folder import PageSource
 from press.inks import Ink
 from press.settings import Settings, parameters
@@ -28,8 +28,8 @@ def test_job_of_a_page() -> None:
 
 def test_parameters_of_options() -> None:
     """Options become one statement with a comment for each number; without options there is none."""
-    assert not job.parameter_statement(Settings())
-    one, = job.parameter_statement(Settings(parameters=parameters(width="0.1mm", scale="50%")))
+    assert not precedence.parameter_statement(Settings())
+    one, = precedence.parameter_statement(Settings(parameters=parameters(width="0.1mm", scale="50%")))
     assert b"/TrapWidth 0.2835 " in one.text and b"2.36 samples at 600" in one.text and b"/TrapColorScaling 0.5 " in one.text
 
 

@@ -81,7 +81,7 @@ def test_byte_order_marks(room: Room, built: None) -> None:
     room.write("strange.inks", b"\xef\xbb\xbfWarm Red\t0.9\nwarm red\t0.8\nGold Foil\t-\tOpaqueIgnore\n")
     told = check(room, "two.pdf", "--inks", "strange.inks")
     has(told, r"warning: byte-order-mark: strange\.inks")
-    has(told, r"warning: inks-line: strange\.inks: line 2: no colorant is called warm red \(is Warm Red meant\?\)")
+    has(told, r"warning: inks-line: strange\.inks: line 2: another line is taken for warm red, which is spelled as the ink")
     assert not re.search("ink-density|line 1: no", told), told
 
 

@@ -5,16 +5,18 @@ import struct
 from collections.abc import Iterable
 from pathlib import Path
 
+import numpy as np
 import pikepdf
 import pytest
 import tifffile
 from conftest import Pages
 from pdf_writer import Pdf, spot
-from press import engine, job, owner_files, watch
+from press import engine, inkedits, job, owner_files, pairs, watch
 from press.findings import Finding
 from press.folder import PageFolder, PageSource
-from press.inks import Ink, inks_of_file
-from press.plates import Head
+from press.inks import Ink, InkBook, Separation, inks_of_file
+from press.plates import Head, Plates
+from press.render import Rendering
 from press.settings import Settings
 from press.source import PageInfo
 from room import Room
@@ -230,7 +232,8 @@ def test_files_beside_that_are_not_used(tmp_path: Path) -> None:
     assert unused == ["Q.inks", "q.01.zones", "q.3.zones", "q.pdf.zones"]
     twice, = (line for line in found if "is not used" not in line)
     assert twice.endswith("q.2.zones is taken for page 2 of q.pdf, and for all pages of q.2.pdf, which stands there too")
-    assert not lines(owner_files.beside_findings(str(tmp_path / "q.pdf"), 2, Settings(zones="a", inks="b")))
+    given = owner_files.beside_findings(str(tmp_path / "q.pdf"), 2, Settings(zones="a", inks="b"))
+    assert all(one.kind == "overridden" for one in given)
     other, = lines(owner_files.beside_findings(str(tmp_path / "q.2.pdf"), 1, Settings()))
     assert other.endswith("q.2.zones is taken for all pages of q.2.pdf, and for page 2 of q.pdf, which stands there too")
 
@@ -254,3 +257,62 @@ def test_blanks_before_a_name_in_a_table(tmp_path: Path) -> None:
     """A line of a table of inks that is indented is one of its ink, and an indented comment is one."""
     (tmp_path / "a.inks").write_text("   Warm Red\t0.9\n  # Gold\t1\n")
     assert list(inks_of_file(str(tmp_path / "a.inks"))) == [b"Warm Red"]
+
+
+# Names of inks
+
+def test_names_in_tables_compare_as_the_librarys_do(tmp_path: Path) -> None:
+    """Case, blanks, accents and the job's spelling make no difference, for process inks too; a name that is spelled as
+    another ink of the page is that one's."""
+    (tmp_path / "a.inks").write_text("WARM  red\t0.9\n cyan\t0.6\nbleu_royal\t0.7\nGold\t1.2\n", encoding="utf-8")
+    book = InkBook(Settings(kind=("warm_RED=Transparent",)), str(tmp_path / "a.inks"))
+    names = ("Cyan", "Warm Red", "Bleu Royal", "GOLD", "Gold")
+    inks = book.page_inks([Separation(name.encode(), b"", None, name.replace(" ", "_")) for name in names], [True] * 5)
+    assert [ink.density for ink in inks] == ["0.6", "0.9", "0.7", inks[3].density, "1.2"]
+    assert inks[1].kind == "Transparent" and inks[3].density_from.rank != "told"
+
+
+def test_names_of_a_house_compare_so_too(room: Room) -> None:
+    """A line of house.inks in other letters is used, and one that is meant for an ink of the file is warned of."""
+    room.sample("two.pdf")
+    (room.beside / "house" / "house.inks").write_text("warm RED\t0.77\nGoldfoil\t1.1\nSilver\t1.0\nCYAN\t0.55\n")
+    told = room.goes("plates", "two.pdf", "page", "--dpi", "72").err
+    job = (room / "page" / "page.job").read_text()
+    assert "/Warm_Red << /NeutralDensity 0.77" in job and "/Cyan << /NeutralDensity 0.55" in job
+    assert "house.inks: line 2: no colorant is called Goldfoil (is Gold Foil meant?)" in told and "Silver" not in told
+
+
+@pytest.mark.parametrize("command, operands", [("plates", ["two.pdf", "page"]), ("preflight", ["two.pdf"]), ("all", ["two.pdf", "out", "--quiet"])])
+def test_lines_that_fit_no_ink(room: Room, built: None, command: str, operands: list[str]) -> None:
+    """A line of a table of inks or of pairs, and an option, that fits no ink of any page is a warning, each once."""
+    room.sample("two.pdf")
+    room.write("two.inks", "Warm Red\t0.9\nwarm red\t0.8\nSilver\t1.0\nBlue\t-\t-\tdrop\n")
+    room.write("two.pairs", "warm red\tBronze\tnever\n")
+    done = room.goes(command, *operands, "--dpi", "72", "--density", "Brown=1", "--to-process", "Orange")
+    for text in ("two.inks: line 2: another line is taken for warm red", "two.inks: line 3: no colorant is called Silver",
+                 "two.inks: line 4: no colorant is called Blue", "two.pairs: line 1: no colorant is called Bronze",
+                 "no colorant of the file is called Brown", "no colorant of the file is called Orange"):
+        assert (done.err + done.out).count(text) == 1, f"{text}\n{done}"
+
+
+def test_inks_of_other_pages_are_looked_at(room: Room) -> None:
+    """A line for an ink of a page that is not made is no stranger."""
+    room.sample("three.pdf")
+    with pikepdf.open(room / "three.pdf", allow_overwriting_input=True) as pdf:
+        space = pikepdf.Array([pikepdf.Name.Separation, pikepdf.Name("/Rust"), pikepdf.Name.DeviceGray, pdf.make_stream(b"{}")])
+        pdf.pages[2].obj.Resources = pikepdf.Dictionary(ColorSpace=pikepdf.Dictionary(S=space))
+        pdf.save(room / "three.pdf")
+    room.write("three.inks", "rust\t0.9\n")
+    assert "rust" not in room.goes("plates", "three.pdf", "page", "--dpi", "72").err
+
+
+def test_pairs_and_edits_compare_names_so_too(tmp_path: Path) -> None:
+    """A table of pairs and the options for plates find inks in other letters."""
+    inks = InkBook(Settings(), None).page_inks([Separation(b"Label Red", b"", None, "Label_Red"), Separation(b"GOLD", b"", None, "GOLD")],
+                                               [True, True])
+    assert [pairs.number_of(inks, name) for name in (b"label  red", b"Label_red", b"gold", b"Gold 2")] == [0, 0, 1, None]
+    plates = Plates(("Label_Red", "GOLD"), (np.zeros((2, 2), "u1"),) * 2, 255, 72)
+    rendering = Rendering(1, tuple(Separation(ink.colorant, b"", None, ink.name) for ink in inks), plates, (), ())
+    editor = inkedits.Editor(rendering, str(tmp_path), "a.pdf")
+    editor.separations = [*(Separation(b"P", b"", None, "P") for _ in range(4)), *rendering.separations]
+    assert [editor.at(name, "--drop") for name in (b"gold", b"label red", b"brown")] == [5, 4, None]

@@ -11,7 +11,7 @@ from dataclasses import dataclass, field, replace
 import numpy
 
 from .errors import PressError, Status
-from .inks import Separation, folded
+from .inks import Separation, folded, ink_called
 from .names import PROCESS, job_names, readable
 from .plates import BLOCK_BYTES, Array, Plates
 from .render import Rendering
@@ -30,6 +30,11 @@ class InkEdits:
     to_process: frozenset[bytes] = frozenset()
     drop: frozenset[bytes] = frozenset()
     merge_suffixes: bool = False
+
+    @property
+    def inks(self) -> set[bytes]:
+        """The inks whose plates are edited."""
+        return {*self.merge, *self.rename, *self.to_process, *self.drop}
 
     def __bool__(self) -> bool:
         return bool(self.merge or self.rename or self.to_process or self.drop or self.merge_suffixes)
@@ -71,12 +76,10 @@ class Editor:
 
     def at(self, name: bytes, option: str) -> int | None:
         """Which plate an ink has; None if the page does not have the ink."""
-        for number, one in enumerate(self.separations):
-            if name in (one.colorant, one.name.encode()):
-                if number < len(PROCESS) and option != "kept":
-                    raise PressError(Status.USAGE, f"{option}: {readable(name)} is a process ink", self.place)
-                return number
-        return None
+        number = ink_called(name, [(one.colorant, one.name.encode()) for one in self.separations])
+        if number is not None and number < len(PROCESS) and option != "kept":
+            raise PressError(Status.USAGE, f"{option}: {readable(name)} is a process ink", self.place)
+        return number
 
     def edited(self, edits: InkEdits) -> Rendering:
         """The rendering with all edits."""
@@ -128,7 +131,7 @@ class Editor:
         number = self.at(old, "--rename")
         if number is None:
             return
-        if self.at(new, "kept") is not None:
+        if self.at(new, "kept") not in (None, number):
             message = f"--rename: the page has an ink {readable(new)} already: --merge puts both on one plate"
             raise PressError(Status.USAGE, message, self.place)
         suffix = re.sub(rb"[^A-Za-z0-9 _.-]", lambda byte: b"%%%02X" % byte.group()[0], new)

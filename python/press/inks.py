@@ -3,12 +3,14 @@
 guessed; and where each figure comes from.
 """
 import fnmatch
+import functools
 import os
 import re
 import shlex
 import unicodedata
-from collections.abc import Callable, Iterator, Sequence
+from collections.abc import Callable, Container, Iterable, Iterator, Mapping, Sequence
 from dataclasses import dataclass, field
+from typing import TypeVar
 
 from . import tables
 from .errors import UsageError
@@ -25,6 +27,7 @@ LIBRARY = os.path.join(PRESS, "inks")
 # Words that a name of a swatch book begins with. Such an ink is no technical one.
 SWATCH_BOOKS = ("pantone", "pms", "hks", "toyo", "dic", "ral", "ncs", "focoltone", "trumatch", "process")
 Look = tuple[float, float, float, float]
+Entry = TypeVar("Entry")
 # What an ink is for, and the kind and density that follow where the owner gives none.
 ROLES: dict[str, tuple[str | None, str | None]] = {
     "process": (None, None), "spot": ("Normal", None), "white": ("Normal", "0.06"), "varnish": ("Transparent", None),
@@ -175,12 +178,35 @@ def inks_of_file(path: str) -> dict[bytes, tuple[int, Known]]:
 
 # The library
 
+@functools.lru_cache(maxsize=4096)
 def folded(name: bytes | str) -> str:
     """A name as the library compares it: the words in small letters, without accents, with a blank between them."""
     text = name.decode("utf-8", "replace") if isinstance(name, bytes) else name
     text = re.sub(r"(?<=[a-z])(?=[A-Z])", " ", text)
     text = "".join(char for char in unicodedata.normalize("NFKD", text) if not unicodedata.combining(char))
     return " ".join(re.findall(r"[^\W_]+", text.casefold()))
+
+
+def squeezed(name: bytes) -> str:
+    """A name as the library compares it, without blanks."""
+    return folded(name).replace(" ", "")
+
+
+def matching(spellings: Iterable[bytes], names: Iterable[bytes], others: Container[bytes] = ()) -> list[bytes]:
+    """Those of some names that are an ink's: as it is spelled, or else as the library compares names. A name that is
+    the spelling of another ink is that one's."""
+    own, names = list(dict.fromkeys(spellings)), list(names)
+    exact = [name for name in own if name in names]
+    read = {folded(name) for name in own} - {""}
+    return exact or [name for name in names if name not in others and folded(name) in read]
+
+
+def ink_called(name: bytes, inks: Sequence[tuple[bytes, ...]]) -> int | None:
+    """Which of several inks, each with its spellings, a name is that of: as it is spelled, or else as the library
+    compares names."""
+    exact = (at for at, spellings in enumerate(inks) if name in spellings)
+    alike = (at for at, spellings in enumerate(inks) if matching(spellings, [name]))
+    return next(exact, next(alike, None))
 
 
 def process_meant(name: bytes) -> str | None:
@@ -267,28 +293,39 @@ class InkBook:
         house = house_file("house.inks")
         self.house = inks_of_file(house) if house else {}
         self.technical, self.spots, self.process = Shelf("technical.inks"), Shelf("spots.inks"), Shelf("process.inks")
-        self.met: set[bytes] = set()
+        # Of each ink that was met its spellings.
+        self.met: set[tuple[bytes, ...]] = set()
 
-    def meet(self, colorant: bytes, name: str) -> tuple[bytes, bytes]:
-        """Both spellings of an ink's name, which are noted as met."""
-        spellings = colorant, name.encode()
-        self.met.update(spellings)
-        return spellings
+    def meet(self, separations: Iterable[Separation]) -> None:
+        """Notes the inks of a page as met."""
+        self.met.update((one.colorant, one.name.encode()) for one in separations)
 
-    def ink(self, one: Separation, has_ink: bool = True) -> Ink:
+    def page_inks(self, separations: Sequence[Separation], has_ink: Iterable[bool]) -> tuple[Ink, ...]:
+        """The inks of a page's separations."""
+        self.meet(separations)
+        names = {name for one in separations for name in (one.colorant, one.name.encode())}
+        return tuple(self.ink(one, inked, names) for one, inked in zip(separations, has_ink))
+
+    def told(self, one: "Separation | Ink", others: Container[bytes] = ()) -> list[tuple[str, list[Known]]]:
+        """What the owner says of a separation, by rank, the first having precedence. `others` are the names of the
+        page's inks."""
+        spellings = one.colorant, one.name.encode()
+
+        def found(table: Mapping[bytes, Entry]) -> list[Entry]:
+            return [table[name] for name in matching(spellings, table, others)]
+        given = [next(iter(found(table)), None) for table in (self.densities, self.kinds)]
+        line = Known(given[0], given[1], "the command line", next(iter(found(self.roles)), None))
+        ranks = [("told", [line, *(known for _, known in found(self.of_table))]),
+                 ("house", [known for _, known in found(self.house)])]
+        return [(rank, [*several, *(known.of_role() for known in several if known.role)]) for rank, several in ranks]
+
+    def ink(self, one: Separation, has_ink: bool = True, others: Container[bytes] = ()) -> Ink:
         """The ink of a separation."""
-        spellings = self.meet(one.colorant, one.name)
-        told = [Known(self.densities.get(key), self.kinds.get(key), "the command line", self.roles.get(key))
-                for key in spellings]
-        told += [self.of_table[key][1] for key in spellings if key in self.of_table]
-        told += [known.of_role() for known in told if known.role]
-        house = [self.house[key][1] for key in spellings if key in self.house]
-        house += [known.of_role() for known in house if known.role]
         process = self.process.whole(one.colorant) if one.name in PROCESS else None
         technical = None if process else self.technical.within(one.colorant)
         spot = None if process else self.spots.whole(one.colorant)
         ranks: list[tuple[str, Sequence[Known | None]]] = [
-            ("told", told), ("house", house), ("library", [process]), ("name", [technical]), ("library", [spot])]
+            *self.told(one, others), ("library", [process]), ("name", [technical]), ("library", [spot])]
         look = one.look or UNKNOWN_LOOK
         kind, kind_from = first_of(ranks, "kind") or ("Normal", Origin("default", "nobody told a kind"))
         fitting = [(rank, [known for known in several if known and known.goes_with(kind)]) for rank, several in ranks]
@@ -297,26 +334,78 @@ class InkBook:
         role, _ = first_of(ranks, "role") or (usual_role(one.name, kind), None)
         return Ink(one.name, one.colorant, one.suffix, density, kind, look, has_ink, density_from, kind_from, role)
 
+    def lost_lines(self, ink: Ink, inks: Sequence[Ink]) -> Iterator[str]:
+        """A line for each figure of one of a page's inks that was given and does not hold, with the one that does."""
+        others = {name for one in inks for name in (one.colorant, one.name.encode())}
+        given = [known for _, several in self.told(ink, others) for known in several]
+        for figure in ("density", "kind", "role"):
+            # What follows from a role was not given.
+            values = [(getattr(one, figure), one.source) for one in given if not one.source.startswith("role ")]
+            first, *rest = [(value, source) for value, source in values if value is not None] or [("", "")]
+            for value, source in rest:
+                if not is_same(value, first[0]):
+                    yield (f"the {figure} {value} of {readable(ink.colorant)} ({source}) gives way to {first[0]} "
+                           f"({first[1]})")
+
     def edits(self) -> list[tuple[str, bytes, bytes]]:
-        """What tables say of plates: the action, the ink, and its new name or that of the ink that is kept."""
-        return [(known.edit[0], name, known.edit[1].encode()) for table in (self.of_table, self.house)
-                for name, (_, known) in table.items() if known.edit]
+        """What tables say of plates: the action, the ink, and its new name or that of the ink that is kept. The table
+        of the file overrides the house's."""
+        found: dict[str, tuple[str, bytes, bytes]] = {}
+        for table in (self.of_table, self.house):
+            for name, (_, known) in table.items():
+                if known.edit:
+                    found.setdefault(folded(name), (known.edit[0], name, known.edit[1].encode()))
+        return list(found.values())
+
+    def lost_edits(self) -> Iterator[str]:
+        """What the house's table says of plates for which the file's table says something else."""
+        told = {folded(name): (known.edit, number) for name, (number, known) in self.of_table.items() if known.edit}
+        for name, (number, known) in self.house.items():
+            edit, line = told.get(folded(name), (known.edit, 0))
+            if edit != known.edit and known.edit and edit:
+                lost, held = ("=".join(filter(None, one)) for one in (known.edit, edit))
+                yield (f"{lost} of {readable(name)} (house.inks, line {number}) gives way to {held} "
+                       f"({file_name(self.table or '')}, line {line})")
 
     def is_technical(self, ink: Ink) -> bool:
         """Whether an ink is technical, by its name or its kind."""
         return not ink.is_process and (self.technical.within(ink.colorant) is not None or not tables.counts(ink.kind))
 
-    def strangers(self) -> Iterator[tuple[str, str | None]]:
-        """What was given for inks that were not met: a line for each, and the table that has it, or None for
-        the command line."""
-        for key in sorted({*self.densities, *self.kinds, *self.roles}):
-            if key not in self.met:
-                yield f"no colorant of the page is called {readable(key)}", None
-        for key, (number, _) in self.of_table.items():
-            if key not in self.met:
-                same = [name for name in self.met if folded(name) == folded(key)]
-                like = f" (is {readable(min(same))} meant?)" if same else ""
-                yield f"{self.table}: line {number}: no colorant is called {readable(key)}{like}", self.table
+    def has_met(self, name: bytes) -> bool:
+        """Whether a name is that of an ink that was met."""
+        return ink_called(name, list(self.met)) is not None
+
+    def unused(self, table: Iterable[bytes]) -> list[bytes]:
+        """The names of a table that are taken for no ink that was met."""
+        names, others = list(table), {name for spellings in self.met for name in spellings}
+        used = {found for spellings in self.met for found in matching(spellings, names, others)}
+        return [name for name in names if name not in used]
+
+    def strangers(self) -> Iterator[str]:
+        """What was given for inks that were not met: a line for each. A house's table is for all its files: of it
+        only a line is named that seems to be meant for an ink that was met."""
+        for key in sorted({name for given in (self.densities, self.kinds, self.roles) for name in self.unused(given)}):
+            yield f"no colorant of the file is called {readable(key)}{self.meant(key)}"
+        for table, lines in ((self.table, self.of_table), (house_file("house.inks"), self.house)):
+            for key in self.unused(lines):
+                place = f"{table}: line {lines[key][0]}"
+                if self.has_met(key):
+                    yield f"{place}: another line is taken for {readable(key)}, which is spelled as the ink"
+                elif table == self.table or self.meant(key):
+                    yield f"{place}: no colorant is called {readable(key)}{self.meant(key)}"
+
+    def meant(self, name: bytes) -> str:
+        """The ink that was met whose name is this one but for blanks, if there is one."""
+        like = [spellings[0] for spellings in self.met if squeezed(spellings[0]) == squeezed(name) != ""]
+        return f" (is {readable(min(like))} meant?)" if like else ""
+
+
+def is_same(one: str, other: str) -> bool:
+    """Whether two figures are the same: densities by their numbers."""
+    try:
+        return float(one) == float(other)
+    except ValueError:
+        return one == other
 
 
 def first_of(ranks: Sequence[tuple[str, Sequence[Known | None]]], figure: str) -> tuple[str, Origin] | None:

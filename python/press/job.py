@@ -4,17 +4,15 @@ it makes. What a job means is for the program to say; here nothing is refused th
 """
 import difflib
 import re
-from collections.abc import Iterator, Mapping, Sequence
+from collections.abc import Iterator, Sequence
 from dataclasses import dataclass, field, replace
 from typing import NamedTuple
 
 from . import tables
-from .errors import PressError, Status
-from .files import BYTE_ORDER_MARK, beside, bytes_of, is_utf16
 from .folder import PageSource
 from .inks import Ink
 from .names import file_name, readable
-from .settings import PARAMETERS, Settings, Value
+from .settings import USUAL_WIDTH
 
 WORD = re.compile(rb"%[^\r\n\f]*|\((?:[^()\\]|\\.)*\)|<<|>>|<[0-9A-Fa-f\s]*>|\[|\]|/[^\s()<>\[\]{}/%\0]*"
                   rb"|[^\s()<>\[\]{}/%\0]+", re.DOTALL)
@@ -24,7 +22,6 @@ DETAILS, INK, LIMITS = ("Type", "ColorantDetails"), ("NeutralDensity", "Colorant
 # Entries of PostScript's trapping that other trappers honour, and this one passes over.
 OF_OTHERS = ("HalftoneName", "ImageInternalTrapping", "ImageResolution", "ImageToObjectTrapping", "ImageTrapPlacement",
              "ImagemaskTrapping", "TrapSetName", "TrappingOrder")
-USUAL_WIDTH = 0.25
 MOST_DEPTH = 16
 OPERAND = re.compile(r"[/(<\d+.-]|(true|false|null)$")
 
@@ -86,52 +83,6 @@ def origin_of(ink: Ink) -> str:
 def decimal(number: float) -> str:
     """A number as a job has it: four digits after the point."""
     return f"{number:.4f}".rstrip("0").rstrip(".") or "0"
-
-
-def comment_of(name: str, values: Mapping[str, Value], dpi: int) -> str:
-    """What a parameter's number means."""
-    value = values[name]
-    if name == "width":
-        return f"{value.text}: {value.number * dpi / 72:.2f} samples at {dpi} pixels per inch"
-    if name == "black-width":
-        width = values["width"].number if "width" in values else USUAL_WIDTH
-        return f"times TrapWidth at black: {width * value.number * 25.4 / 72:.3g} mm"
-    return PARAMETERS[name].comment
-
-
-def parameter_statement(settings: Settings) -> list[Statement]:
-    """The statement that sets the parameters of options and presets, if there are any."""
-    if not any(PARAMETERS[name].key for name in settings.parameters):
-        return []
-    lines = ["% Trapping parameters that were told by words:", "<<"]
-    for name, parameter in PARAMETERS.items():
-        if parameter.key and name in settings.parameters:
-            value = settings.parameters[name]
-            entry = f"/{parameter.key} {decimal(value.number)}"
-            comment = comment_of(name, settings.parameters, settings.dpi)
-            lines.append(f"   {entry:<24} % {comment} ({value.source})")
-    return [Statement(None, ("\n".join(lines + [">> settrapparams"]) + "\n\n").encode())]
-
-
-def read_statements(paths: Sequence[str]) -> list[Statement]:
-    """The statements of files. A byte order mark is left aside."""
-    found = []
-    for path in paths:
-        text = bytes_of(path)
-        if is_utf16(text):
-            raise PressError(Status.INPUT, "in UTF-16: save it as UTF-8", path)
-        found.append(Statement(path, text.removeprefix(BYTE_ORDER_MARK)))
-    return found
-
-
-def zones_files(settings: Settings, path: str, page: int) -> list[str]:
-    """The files of zones of a page: the one of --zones, or those beside the file."""
-    return [settings.zones] if settings.zones else beside(path, "zones", f"{page}.zones")
-
-
-def own_statements(settings: Settings, path: str, page: int) -> list[Statement]:
-    """What the owner sets for a page: the parameters of options, and the files of zones."""
-    return parameter_statement(settings) + read_statements(zones_files(settings, path, page))
 
 
 # Reading
@@ -246,6 +197,17 @@ def pairs_of(value: Node) -> list[tuple[str, int, Node]]:
         return []
     return [(key.text[1:], key.at, body) for key, body in value.pairs
             if isinstance(key, Token) and key.text.startswith("/")]
+
+
+def operands_of(text: bytes, operator: str) -> Iterator[tuple[int, Node]]:
+    """What stands before each use of an operator, with the offset of the operator."""
+    operand: Node | None = None
+    words = words_of(text)
+    for word in words:
+        value = value_of(words, word)
+        if isinstance(value, Token) and value.text == operator and operand is not None:
+            yield word.at, operand
+        operand = value
 
 
 def read(text: bytes) -> Reading:

@@ -5,17 +5,17 @@ import shutil
 from collections.abc import Iterable, Iterator, Sequence
 from dataclasses import dataclass
 
-from . import job, preflight, tiff, tools
+from . import precedence, preflight, tiff, tools
 from .errors import PressError, Status, UsageError
 from .events import FindingMade, Observer, RunStarted, silent
 from .files import folder_beside, put_folder
-from .findings import WARNING, Finding, refusal_for
+from .findings import NOTE, WARNING, Finding, refusal_for
 from .folder import TABLE, PageFolder, PageSource
-from .inks import InkBook, Separation, open_book, unsure_lines
+from .inks import Ink, InkBook, Separation, open_book, unsure_lines
 from .job_record import input_file, part_of, write_record
 from .layout import lay_out
 from .names import MOST_PLATES, PROCESS, job_names
-from .page import Page, layout_of, prepare, record_of, write_folder, write_page
+from .page import layout_of, prepare, record_of, write_folder, write_page
 from .plates import is_blank, read_plates, write_pgm
 from .recorded import options_from, without_run_only
 from .settings import Settings
@@ -43,14 +43,11 @@ def report(path: str, findings: Iterable[Finding], observer: Observer) -> None:
         observer(FindingMade(one))
 
 
-def findings_of_inks(page: Page, book: InkBook) -> Iterator[Finding]:
-    """What has to be said of a page's images and inks, and of options for inks that it does not have. A table
-    may be for other pages too."""
-    if page.untraced:
-        yield Finding("images", WARNING, page.number, page.untraced)
-    for ink in page.inks:
-        yield from (Finding(kind, level, page.number, text) for kind, level, text in unsure_lines(ink))
-    yield from (Finding("inks-line", WARNING, page.number, line) for line, table in book.strangers() if table is None)
+def findings_of_inks(inks: Sequence[Ink], book: InkBook, page: int | None) -> Iterator[Finding]:
+    """What has to be said of a page's inks."""
+    for ink in inks:
+        yield from (Finding("overridden", NOTE, page, line) for line in book.lost_lines(ink, inks))
+        yield from (Finding(kind, level, page, text) for kind, level, text in unsure_lines(ink))
 
 
 def make_page(path: str, folder: str, number: int = 1, settings: Settings = Settings(), force: bool = False,
@@ -60,7 +57,7 @@ def make_page(path: str, folder: str, number: int = 1, settings: Settings = Sett
     file = input_file(path)
     judge_place(folder, force)
     book = open_book(settings, path)
-    job.own_statements(settings, path, number)
+    precedence.own_statements(settings, path, number)
     tools.tool("gs")
     with folder_beside(folder) as made:
         scratch = os.path.join(made, "scratch")
@@ -74,7 +71,9 @@ def make_page(path: str, folder: str, number: int = 1, settings: Settings = Sett
         done = record_of(page, settings, write_page(page, settings, made, layout))
         options = without_run_only(options_from(settings, os.path.dirname(folder)))
         write_record(made, part_of(file, number, options, done))
-        report(path, findings_of_inks(page, book), observer)
+        if page.untraced:
+            report(path, [Finding("images", WARNING, number, page.untraced)], observer)
+        report(path, findings_of_inks(page.inks, book, number), observer)
         report(path, layout.findings(number, settings.dpi), observer)
         shutil.rmtree(scratch)
         put_folder(made, folder)
@@ -127,18 +126,20 @@ def make_of_tiffs(given: TiffPlates, folder: str, settings: Settings = Settings(
     settings = settings.but(dpi=tiff.resolution_of(given.dpi, files))
     judge_place(folder, force)
     book = InkBook(settings, settings.inks)
-    own = job.parameter_statement(settings) + job.read_statements([settings.zones] if settings.zones else [])
-    inks = []
+    own = precedence.in_order(settings, precedence.read_statements([settings.zones] if settings.zones else []))
+    separations, has_ink = given.separations(), []
     with folder_beside(folder) as made:
-        for one, file in zip(given.separations(), files):
+        for one, file in zip(separations, files):
             array, maxval = tiff.read_separation(file, given.inverted), (1 << file.bits) - 1
             write_pgm(os.path.join(made, one.name + ".pgm"), array, maxval)
-            inks.append(book.ink(one, not is_blank(array, maxval)))
+            has_ink.append(not is_blank(array, maxval))
+        inks = book.page_inks(separations, has_ink)
         plates = read_plates({ink.name: os.path.join(made, ink.name + ".pgm") for ink in inks}, settings.dpi)
         layout = lay_out(own, None, None, plates, inks, settings)
-        write_folder(made, PageSource(given.title, 1, settings.dpi), tuple(inks), layout)
-        found = [Finding(kind, level, None, text) for ink in inks for kind, level, text in unsure_lines(ink)]
-        found += [Finding("inks-line", WARNING, None, line) for line, table in book.strangers() if table is None]
+        write_folder(made, PageSource(given.title, 1, settings.dpi), inks, layout)
+        found = [*findings_of_inks(inks, book, None),
+                 *(Finding("inks-line", WARNING, None, line) for line in book.strangers()),
+                 *(Finding("overridden", NOTE, None, line) for line in precedence.lost_lines(settings, own))]
         found += layout.findings(None, settings.dpi)
         line = tiff.overruled(given.dpi, files)
         found += [Finding("resolution", WARNING, None, line)] if line else []

@@ -3,12 +3,13 @@
 make no zone, and files beside the PDF that look like its own and are not used."""
 import os
 import re
-from collections.abc import Iterator, Sequence
+from collections.abc import Iterator, Mapping, Sequence
 
 from . import job
-from .findings import WARNING, Finding
+from .files import beside
+from .findings import NOTE, WARNING, Finding
 from .job_language import SCALE, JobSyntaxError, JobZone, read_job
-from .settings import Settings
+from .settings import Settings, house_file
 from .source import PageInfo
 
 ENDS = (".zones", ".inks", ".pairs")
@@ -18,14 +19,8 @@ PATH, PATH_ENDS = ("moveto", "lineto", "rmoveto", "rlineto", "closepath"), ("set
 
 def device_keys(text: bytes) -> Iterator[tuple[int, list[str]]]:
     """The dictionaries before setpagedevice: of each its offset, and its keys that change what the page's job says."""
-    operand: job.Node | None = None
-    words = job.words_of(text)
-    for word in words:
-        value = job.value_of(words, word)
-        if isinstance(value, job.Token) and value.text == "setpagedevice" and operand is not None:
-            keys = [key for key, _, body in job.pairs_of(operand) if key in job.DEVICE and not is_usual(key, body)]
-            yield word.at, keys
-        operand = value
+    for at, operand in job.operands_of(text, "setpagedevice"):
+        yield at, [key for key, _, body in job.pairs_of(operand) if key in job.DEVICE and not is_usual(key, body)]
 
 
 def is_usual(key: str, body: job.Node) -> bool:
@@ -122,6 +117,7 @@ def beside_findings(path: str, pages: int, settings: Settings) -> Iterator[Findi
     folder, name = os.path.split(path)
     stem = os.path.splitext(name)[0]
     given = dict(zip(ENDS, (settings.zones, settings.inks, settings.pairs)))
+    yield from unread_findings(path, pages, given)
     there = sorted(os.listdir(folder or "."))
     others = {os.path.splitext(one)[0] for one in there if one.lower().endswith(PAGES)} - {stem}
     for one in there:
@@ -141,6 +137,18 @@ def beside_findings(path: str, pages: int, settings: Settings) -> Iterator[Findi
     if outer and outer.group(1) in others and stem + ".zones" in there and not settings.zones:
         yield Finding("beside", WARNING, None, f"{os.path.join(folder, stem)}.zones is taken for all pages of {name}, "
                       f"and for page {outer.group(2)} of {outer.group(1)}.pdf, which stands there too")
+
+
+def unread_findings(path: str, pages: int, given: Mapping[str, str | None]) -> Iterator[Finding]:
+    """Files beside the PDF, and the house's table of pairs, that would be read if no other file was given."""
+    for end, option in given.items():
+        names = [end[1:], *(f"{page}.zones" for page in range(1, pages + 1) if end == ".zones")]
+        found = beside(path, *names) if option else []
+        yield from (Finding("overridden", NOTE, None, f"{one} gives way to {end.replace('.', '--')} {option}")
+                    for one in found if os.path.realpath(one) != os.path.realpath(option or ""))
+    house, own = house_file("pairs.inks"), given[".pairs"] or next(iter(beside(path, "pairs")), None)
+    if house and own:
+        yield Finding("overridden", NOTE, None, f"{house} gives way to {own}")
 
 
 def is_of_page(name: str, stem: str, middle: str, pages: int) -> bool:

@@ -1,18 +1,18 @@
 # SPDX-License-Identifier: Apache-2.0
 """One page from a source: what is known of it once it is rendered, and the folder that is made of that."""
 import os
-from collections.abc import Sequence
+from collections.abc import Iterator, Sequence
 from dataclasses import dataclass, replace
 from typing import Any
 
-from . import job
+from . import job, precedence
 from .content import coverage_of, intent_profile
 from .errors import PressError, UsageError
 from .files import size_text
 from .folder import JOB, TABLE, ZONES, PageFolder, PageSource, write_table
 from .icc import need_press_profile
 from .inkedits import InkEdits, edit_plates, pairs_of
-from .inks import Ink, InkBook
+from .inks import Ink, InkBook, folded
 from .job_record import DONE, digest_of
 from .layout import Layout, lay_out, trap_box
 from .names import readable
@@ -56,8 +56,7 @@ def prepare(source: Source, number: int, settings: Settings, book: InkBook, scra
         settings = settings.but(icc=profile)
     rendering = edit_plates(render(source, number, settings, scratch), edits_of(settings, book), scratch,
                             source.place(number))
-    has_ink = rendering.plates.has_ink()
-    inks = tuple(book.ink(one, inked) for one, inked in zip(rendering.separations, has_ink))
+    inks = book.page_inks(rendering.separations, rendering.plates.has_ink())
     pairs = pairs_file(settings, source.path)
     if pairs:
         inks = tuple(directed(inks, read_pairs(pairs)))
@@ -71,20 +70,39 @@ def prepare(source: Source, number: int, settings: Settings, book: InkBook, scra
     return Page(source, number, info, rendering, inks, trace, untraced)
 
 
-def edits_of(settings: Settings, book: InkBook) -> InkEdits:
-    """What options and tables say of plates."""
-    def of(action: str) -> list[tuple[bytes, bytes]]:
-        return [(name, value) for one, name, value in book.edits() if one == action]
-    return InkEdits({**dict(of("merge")), **pairs_of(settings.merge, "--merge", UsageError)},
-                    {**dict(of("rename")), **pairs_of(settings.rename, "--rename", UsageError)},
-                    frozenset([*map(os.fsencode, settings.to_process), *(name for name, _ in of("to-process"))]),
-                    frozenset([*map(os.fsencode, settings.drop), *(name for name, _ in of("drop"))]),
+def option_edits(settings: Settings) -> InkEdits:
+    """What options say of plates."""
+    return InkEdits(pairs_of(settings.merge, "--merge", UsageError), pairs_of(settings.rename, "--rename", UsageError),
+                    frozenset(map(os.fsencode, settings.to_process)), frozenset(map(os.fsencode, settings.drop)),
                     settings.merge_suffixes)
+
+
+def edits_of(settings: Settings, book: InkBook) -> InkEdits:
+    """What options and tables say of plates. What an option says of an ink overrides the tables."""
+    own = option_edits(settings)
+    told = [edit for edit in book.edits() if folded(edit[1]) not in map(folded, own.inks)]
+
+    def of(action: str) -> list[tuple[bytes, bytes]]:
+        return [(name, value) for one, name, value in told if one == action]
+    return InkEdits({**dict(of("merge")), **own.merge}, {**dict(of("rename")), **own.rename},
+                    own.to_process | dict(of("to-process")).keys(), own.drop | dict(of("drop")).keys(),
+                    own.merge_suffixes)
+
+
+def lost_edits(settings: Settings, book: InkBook) -> Iterator[str]:
+    """A line for each plate of which tables and options say different things."""
+    own = {folded(name): name for name in option_edits(settings).inks}
+    for action, name, value in book.edits():
+        if folded(name) in own:
+            given = "=".join(filter(None, (action, readable(value))))
+            shown = readable(own[folded(name)])
+            yield f"{given} of {readable(name)} in the tables gives way to the options for {shown}"
+    yield from book.lost_edits()
 
 
 def layout_of(page: Page, settings: Settings) -> Layout:
     """What is in the page's job before showpage: what the owner sets, and the press room's own zones."""
-    own = job.own_statements(settings, page.source.path, page.number)
+    own = precedence.own_statements(settings, page.source.path, page.number)
     settings = settings.but(pairs=pairs_file(settings, page.source.path))
     return lay_out(own, page.info, page.trace, page.rendering.plates, page.inks, settings)
 

@@ -16,7 +16,7 @@ import numpy.typing as npt
 
 from .errors import PressError, Status, UsageError
 from .files import beside
-from .inks import Ink, Origin, entries_of
+from .inks import Ink, Origin, entries_of, ink_called
 from .names import readable
 from .settings import Settings, house_file
 from .strokes import Box, edges_of, steps_of
@@ -78,7 +78,7 @@ def pairs_file(settings: Settings, path: str) -> str | None:
 
 def number_of(inks: Sequence[Ink], name: bytes) -> int | None:
     """Which ink of a page has a name."""
-    return next((at for at, ink in enumerate(inks) if name in (ink.colorant, ink.name.encode())), None)
+    return ink_called(name, [(ink.colorant, ink.name.encode()) for ink in inks])
 
 
 # Directions

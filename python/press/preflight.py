@@ -10,18 +10,19 @@ from dataclasses import asdict, dataclass
 
 import numpy
 
-from . import content, engine, files, images, job, owner_files, tools
+from . import content, engine, files, images, job, owner_files, precedence, tools
 from .errors import PressError, Status
 from .files import BYTE_ORDER_MARK, bytes_of, free_room, size_text
 from .findings import FAULT, NOTE, WARNING, Finding
 from .folder import PageSource
 from .inkedits import twins
-from .inks import Ink, InkBook, Separation, folded, unsure_lines
+from .inks import Ink, InkBook, Separation, folded, open_book, unsure_lines
 from .layout import box_line, layer_lines, trap_box
 from .names import MOST_PLATES, PROCESS, job_names, readable
-from .page import Page, edits_of, layout_of, prepare, room_line
+from .page import Page, layout_of, lost_edits, option_edits, prepare, room_line
+from .pairs import pairs_file, read_pairs
 from .plates import LONGEST_SHEET_SIDE, LONGEST_SIDE, MOST_SAMPLES, Array, Plates, fits_page
-from .settings import Settings
+from .settings import Settings, house_file
 from .source import BOX_NAMES, PageInfo, Source, is_empty, lacks_box, open_source
 from .tables import counts
 
@@ -92,7 +93,7 @@ def check(path: str, settings: Settings, pages: Sequence[int] = ()) -> FileRepor
     """Checks a file and these pages of it, or all, each rendered small. Nothing is written."""
     with tempfile.TemporaryDirectory(prefix="press-") as scratch:
         source = open_source(path, scratch, settings.time)
-        book = ink_book(settings, path)
+        book = open_book(settings, path)
         found = [CONVERTED] if source.converted else []
         chosen = pages or range(1, source.count + 1)
         found += check_file(source, settings, book, chosen)
@@ -105,11 +106,6 @@ def check(path: str, settings: Settings, pages: Sequence[int] = ()) -> FileRepor
     return FileReport(source, settings.dpi, tuple(found), tuple(needs))
 
 
-def ink_book(settings: Settings, path: str) -> InkBook:
-    """What is known of the inks of a file: by the table of --inks, or the one beside the file."""
-    return InkBook(settings, settings.inks or next(iter(files.beside(path, "inks")), None))
-
-
 # The file
 
 def check_file(source: Source, settings: Settings, book: InkBook, pages: Sequence[int],
@@ -119,7 +115,8 @@ def check_file(source: Source, settings: Settings, book: InkBook, pages: Sequenc
         if page > source.count:
             raise PressError(Status.PDF, f"there is no page {page}: it has {source.count}", source.path)
     source.read([page for page in pages if page not in source.known])
-    found = [*table_findings(source, settings, book), *content.file_findings(source.pdf, settings)]
+    found = [*table_findings(source, settings, book), *content.file_findings(source.pdf, settings),
+             *(Finding("overridden", NOTE, None, line) for line in lost_edits(settings, book))]
     if lacks_box(source.path):
         found.append(Finding("box", WARNING, None, "the EPS tells no box (%%BoundingBox): Ghostscript takes a page of "
                              "the usual size"))
@@ -127,14 +124,13 @@ def check_file(source: Source, settings: Settings, book: InkBook, pages: Sequenc
         found += size_findings(source, settings, page)
     found += owner_files.beside_findings(source.path, source.count, settings)
     found += statement_findings(source, settings, book, pages)
-    if len(pages) == source.count and all(source.page(page) for page in pages):
-        found += stranger_findings(source, book, pages)
+    found += stranger_findings(source, book, pages)
     return list(dict.fromkeys(found))
 
 
 def table_findings(source: Source, settings: Settings, book: InkBook) -> Iterator[Finding]:
     """Tables and zones that begin with a byte order mark."""
-    for path in [book.table, *job.zones_files(settings, source.path, 0)]:
+    for path in [book.table, *precedence.zones_files(settings, source.path, 0)]:
         if path and bytes_of(path).startswith(BYTE_ORDER_MARK):
             yield Finding("byte-order-mark", WARNING, None, f"{path}: line 1: begins with a byte order mark, which is "
                           f"left aside")
@@ -195,12 +191,13 @@ def statement_findings(source: Source, settings: Settings, book: InkBook, pages:
     judged: set[tuple[bytes, int | None]] = set()
     for page in pages:
         own = [] if settings.zones else files.beside(source.path, f"{page}.zones")
-        statements = job.own_statements(settings, source.path, page)
+        statements = precedence.own_statements(settings, source.path, page)
         for path, text in statements:
             if path:
-                yield from zones_findings(path, text, settings, page if path in own else None)
+                yield from zones_findings(path, text, page if path in own else None)
         yield from owner_files.zone_findings(statements, source.page(page), settings, page)
         last = page if own else None
+        yield from (Finding("overridden", NOTE, last, line) for line in precedence.lost_lines(settings, statements))
         for zone in job.read_all(statements).zones:
             line = job.width_line(zone, settings.dpi)
             if line:
@@ -213,23 +210,25 @@ def statement_findings(source: Source, settings: Settings, book: InkBook, pages:
             yield from job_findings(written, inks, last)
 
 
-def zones_findings(path: str, text: bytes, settings: Settings, page: int | None) -> Iterator[Finding]:
-    """Keys of a zones file that the engine passes over, and parameters in it that override options."""
+def zones_findings(path: str, text: bytes, page: int | None) -> Iterator[Finding]:
+    """Keys of a zones file that the engine passes over, and statements in it that change the page's own job."""
     for stranger in job.read(text).strangers:
         yield Finding("unknown-key", WARNING, page, f"{path}: line {job.line_at(text, stranger.at)}: "
                       f"{job.stranger_line(stranger)}")
     yield from owner_files.statement_findings(path, text, page)
-    if settings.parameters and b"settrapparams" in text:
-        yield Finding("parameters", NOTE, page, f"{path}: what it sets by settrapparams counts before the words of the "
-                      f"command line")
 
 
-def page_inks(source: Source, book: InkBook, page: int) -> list[Ink]:
-    """The inks that a page has by what the PDF says of it."""
+def pdf_separations(source: Source, page: int) -> list[Separation]:
+    """The separations that a page has by what the PDF says of it."""
     info = source.page(page)
     colorants = [name.encode() for name in PROCESS] + list(info.spots if info else ())
-    names = job_names(colorants[:MOST_PLATES])
-    return [book.ink(Separation(colorant, b"", None, name)) for colorant, name in zip(colorants, names)]
+    return [Separation(colorant, b"", None, name) for colorant, name in zip(colorants, job_names(colorants))]
+
+
+def page_inks(source: Source, book: InkBook, page: int) -> tuple[Ink, ...]:
+    """The inks of these, as many as a job may have."""
+    separations = pdf_separations(source, page)[:MOST_PLATES]
+    return book.page_inks(separations, [True] * len(separations))
 
 
 def job_findings(written: job.Job, inks: Sequence[Ink], page: int | None) -> Iterator[Finding]:
@@ -244,17 +243,39 @@ def job_findings(written: job.Job, inks: Sequence[Ink], page: int | None) -> Ite
 
 
 def stranger_findings(source: Source, book: InkBook, pages: Sequence[int]) -> Iterator[Finding]:
-    """Lines of the table, and options, that fit no ink of any page."""
-    for page in pages:
-        info = source.page(page)
-        colorants = [name.encode() for name in PROCESS] + list(info.spots if info else ())
-        for colorant, name in zip(colorants, job_names(colorants)):
-            book.meet(colorant, name)
-    for line, _ in book.strangers():
-        yield Finding("inks-line", WARNING, None, line)
-    own = edits_of(book.settings, InkBook(Settings(), None))
-    for stranger in sorted({*own.merge, *own.rename, *own.to_process, *own.drop} - book.met):
-        yield Finding("inks-line", WARNING, None, f"no colorant of the page is called {readable(stranger)}")
+    """Lines of tables, and options, that fit no ink of any page. The pages that are not made are looked at only if
+    something fits none of the others."""
+    chosen = [pages, [page for page in range(1, source.count + 1) if page not in pages]]
+    lines: list[str] = []
+    for several in chosen:
+        source.read([page for page in several if page not in source.known])
+        if not all(source.page(page) for page in several):
+            return
+        for page in several:
+            book.meet(pdf_separations(source, page))
+        lines = [*stranger_lines(book), *pair_lines(book, source.path)]
+        if not lines:
+            return
+    yield from (Finding("inks-line", WARNING, None, line) for line in lines)
+
+
+def stranger_lines(book: InkBook) -> list[str]:
+    """The lines of what was given for inks that no page has; an ink may have the name that an edit gives it."""
+    own = option_edits(book.settings)
+    lines = [f"no colorant of the file is called {readable(name)}{book.meant(name)}" for name in sorted(own.inks)
+             if not book.has_met(name)]
+    news = (*own.merge.values(), *own.rename.values(), *(new for _, _, new in book.edits() if new))
+    book.met.update((new,) for new in news)
+    return [*book.strangers(), *lines]
+
+
+def pair_lines(book: InkBook, path: str) -> Iterator[str]:
+    """The lines of a table of pairs with an ink that no page has; of a house's, those that seem to be meant for one."""
+    table = pairs_file(book.settings, path)
+    for rule in read_pairs(table) if table else ():
+        for name in (rule.one, rule.other):
+            if not book.has_met(name) and (table != house_file("pairs.inks") or book.meant(name)):
+                yield f"{rule.place}: no colorant is called {readable(name)}{book.meant(name)}"
 
 
 # A page
@@ -320,6 +341,7 @@ def ink_findings(page: Page, book: InkBook) -> Iterator[Finding]:
     yield from spelling_findings(page)
     yield from twin_findings(page)
     for ink in page.inks:
+        yield from (Finding("overridden", NOTE, page.number, line) for line in book.lost_lines(ink, page.inks))
         for kind, level, line in unsure_lines(ink):
             yield Finding(kind, level, page.number, line)
         if ink in inked and book.is_technical(ink):

@@ -66,7 +66,7 @@ class RunLines:
 
 
 class Warnings:
-    """An observer that prints warnings alone, and that a file was PostScript."""
+    """An observer that prints warnings, values that gave way to others, and that a file was PostScript."""
 
     def __init__(self, path: str) -> None:
         self.path = path
@@ -74,9 +74,13 @@ class Warnings:
     def __call__(self, event: Event) -> None:
         if isinstance(event, RunStarted) and event.converted:
             say(f"note: {self.path}: PostScript: Ghostscript made a PDF of it")
-        elif isinstance(event, FindingMade) and event.finding.level == WARNING:
+        elif isinstance(event, FindingMade):
             one = event.finding
-            warn((f"{self.path}: page {one.page}: " if one.page else f"{self.path}: ") + one.text)
+            line = (f"{self.path}: page {one.page}: " if one.page else f"{self.path}: ") + one.text
+            if one.level == WARNING:
+                warn(line)
+            elif one.kind == "overridden":
+                say(f"note: {line}")
 
 
 def end_line(end: PageDone | PageFailed) -> str:

@@ -2,6 +2,7 @@
 """What a page is made with: settings, the options that set them, presets, and where each value comes from."""
 import argparse
 import dataclasses
+import math
 import os
 import re
 from collections.abc import Callable, Mapping
@@ -15,7 +16,9 @@ from .tools import PRESS
 
 BOXES = ("media", "crop", "bleed", "trim", "art")
 POINTS = {"mm": 72 / 25.4, "um": 72 / 25_400, "µm": 72 / 25_400, "pt": 1.0, "in": 72.0}
-MOST_WIDTH = 100
+MOST_WIDTH, USUAL_WIDTH = 100, 0.25
+# A trap reaches less than so many pixels, times BlackWidth at black (docs/JOBS.md).
+MOST_REACH = 128.5
 MOST_PAGE, MOST_SECONDS, MOST_JOBS = 999_999, 86_400, 1024
 PRESETS = os.path.join(PRESS, "presets")
 
@@ -75,11 +78,18 @@ def share_of(text: str, what: str) -> float:
 
 @dataclass(frozen=True)
 class Value:
-    """The value of a trapping parameter: the number that the job gets, the text that was given, and who gave it."""
+    """The value of a trapping parameter: the number that the job gets, the text that was given, and who gave it; and
+    the value of a preset that it is in the place of."""
 
     number: float
     text: str
     source: str
+    instead_of: "Value | None" = None
+
+    @property
+    def is_option(self) -> bool:
+        """Whether an option gives it, and no preset."""
+        return self.source.startswith("--")
 
 
 @dataclass(frozen=True)
@@ -157,7 +167,7 @@ def parameters(preset: str | None = None, **given: str | None) -> dict[str, Valu
     for name, parameter in PARAMETERS.items():
         text = given.get(name.replace("-", "_"))
         if text is not None:
-            values[name] = Value(parameter.read(text, f"--{name}"), text, f"--{name}")
+            values[name] = Value(parameter.read(text, f"--{name}"), text, f"--{name}", values.get(name))
     return values
 
 
@@ -227,11 +237,27 @@ class Settings:
             raise UsageError("--pdf and --tiff-only do not go together: a trapped PDF is made of plates")
         if settings.icc:
             need_press_profile(settings.icc)
+        if not given.get("tiff"):
+            need_reach(settings)
         return settings
 
     def but(self, **changes: Any) -> "Settings":
         """The same settings but for some."""
         return dataclasses.replace(self, **changes)
+
+
+def need_reach(settings: Settings) -> None:
+    """Refuses a trap width that does not fit the resolution, with the largest that does."""
+    width, black = settings.parameters.get("width"), settings.parameters.get("black-width")
+    factor = max(1.0, black.number if black else 1.0)
+    points = width.number if width else USUAL_WIDTH
+    if points * factor * settings.dpi / 72 < MOST_REACH:
+        return
+    value = width or black
+    most = math.floor((MOST_REACH * 72 / settings.dpi / factor - 0.0001) * 1000) / 1000
+    at_black = f" times {factor:g} at black" if factor > 1 else ""
+    raise UsageError(f"{value.source if value else 'TrapWidth'}: a trap width of {points:.4g}pt{at_black} is too wide "
+                     f"at {settings.dpi} pixels per inch: at most {most:g}pt ({most * 25.4 / 72:.3g}mm) fits")
 
 
 # Options
@@ -254,7 +280,7 @@ def add_page_options(parser: argparse.ArgumentParser) -> None:
              'density open, and a kind may be left out')
     add("-z", "--zones", metavar="FILE",
         help='statements of the job language, see trap-job(5), that are put before "showpage": trapping parameters and '
-             'zones. They override options')
+             'zones. Options override a file that makes no zone')
     add("--icc", metavar="FILE",
         help="the profile of the press, by which colours that are not inks are separated, and inks are drawn")
     add("--output-intent", action="store_true", default=None,
@@ -263,7 +289,9 @@ def add_page_options(parser: argparse.ArgumentParser) -> None:
         help="the total ink above which preflight reports the place; the default is 300%%")
     add("-p", "--preset", metavar="NAME",
         help='trapping parameters by a name: "offset", "flexo", "gravure", "screen", or one of the house')
-    add("-w", "--width", metavar="W", help="the trap width, with its unit: 0.1mm, 100um, 0.25pt or 0.004in")
+    add("-w", "--width", metavar="W",
+        help="the trap width, with its unit: 0.1mm, 100um, 0.25pt or 0.004in. At most 100pt, and less than 9252pt "
+             "divided by the dpi, and by --black-width if that is above 1: 15.4pt at 600 dpi")
     add("--black-width", metavar="F", help="a factor of the trap width at black, up to 10")
     add("--step", metavar="S",
         help="the minimum change of two inks, one falling and another rising, for an edge to be trapped: 0.25 or 25%%")
