@@ -23,6 +23,11 @@ def pages_of(path: Path, *contents: str) -> None:
     pdf(str(path), [page([], one) for one in contents])
 
 
+def files_of(folder: Path) -> dict[str, bytes]:
+    """The files of a folder."""
+    return {str(path.relative_to(folder)): path.read_bytes() for path in folder.rglob("*") if path.is_file()}
+
+
 def record(folder: Path) -> dict[str, Any]:
     """The record in a folder."""
     found: dict[str, Any] = json.loads((folder / "job.json").read_text(encoding="utf-8"))
@@ -168,3 +173,28 @@ def test_digests_are_taken_again_only_if_the_system_shows_a_change(tmp_path: Pat
     assert not taken.is_untouched() and taken.changed_line() is None
     path.write_bytes(b"two")
     assert "the file was replaced while it was processed (SHA-256 7692c3ad3540.. at the start, 3fc4ccfe7458.. now)" in str(taken.changed_line())
+
+
+@pytest.mark.usefixtures("built")
+def test_a_page_made_again_uses_the_recorded_options(room: Room) -> None:
+    """The same bytes as before, from another folder too; other options are refused without --force, which keeps the rest."""
+    pages_of(room / "job.pdf", GRAY, PAIR)
+    room.write("own.zones", "<< /TrapWidth 2 >> settrapparams\n")
+    (room / "below").mkdir()
+    room.goes("all", "--quiet", "--dpi", "72", "--box", "crop", "--zones", "own.zones", "--preset", "offset", "--no-proof", "job.pdf", "out")
+    folder = room / "out/page-002"
+    before = files_of(folder)
+    shutil.rmtree(folder)
+    room.goes("all", "--quiet", "--page", "2", "job.pdf", "out")
+    assert files_of(folder) == before
+    room.goes("all", "--quiet", "--page", "2", "--dpi", "72", "../job.pdf", "../out", cwd=room / "below")
+    assert {name for name, data in files_of(folder).items() if before.get(name) != data} <= {"page.job", "job.json", "warnings.txt"}
+    for option, was, now in (("dpi", "--dpi 72", "--dpi 600"), ("width", "no --width", "--width 1mm"), ("look", "no --look", "--look")):
+        line = (rf"press-all: --{option}: page 2 of out was made with {was}, and not with {now} \(without it the recorded options are used; "
+                r"--force makes the page with other ones\) \(see press-all --help\)")
+        room.refused(2, line, "all", "--quiet", "--page", "2", *now.split(), "job.pdf", "out")
+    room.goes("all", "--quiet", "--page", "2", "--dpi", "36", "--force", "job.pdf", "out")
+    found = record(room / "out")
+    assert found["options"]["dpi"] == 72 and found["pages"]["2"]["options"] == {**found["pages"]["1"]["options"], "dpi": 36}
+    room.refused(2, r"press-all: --page: pages 1 and 2 of out were made with different options: make them one after the other .*", "all",
+                 "--quiet", "--page", "1,2", "job.pdf", "out")

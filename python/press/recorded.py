@@ -4,9 +4,12 @@ import argparse
 import dataclasses
 import functools
 import os
-from collections.abc import Mapping
+from collections.abc import Mapping, Sequence
 from typing import Any
 
+from .errors import UsageError
+from .folder import JobFolder
+from .job_record import OPTIONS, options_of, read_record
 from .settings import PARAMETERS, Settings, add_made_options, add_page_choice
 
 # Options that decide how a run goes, and not what a page becomes. They are recorded, and never a reason to refuse.
@@ -29,18 +32,23 @@ def actions() -> dict[str, argparse.Action]:
 def options_from(settings: Settings, out: str) -> dict[str, Any]:
     """The options that make these settings, but for those that are as usual. A path that is not absolute starts at
     the folder OUT."""
-    usual, found = Settings(), {}
+    found: dict[str, Any] = {}
     for name, action in actions().items():
         if action.dest.replace("_", "-") in PARAMETERS:
             value: Any = given_parameter(settings, action.dest.replace("_", "-"))
         else:
             value = getattr(settings, action.dest)
-        if value is None or value == getattr(usual, action.dest, None):
+        if value is None or value == getattr(Settings(), action.dest, None):
             continue
-        if action.dest in PATHS and not os.path.isabs(value):
-            value = os.path.relpath(os.path.realpath(value), os.path.realpath(out))
+        if action.dest in PATHS:
+            value = recorded_path(value, out)
         found[name] = True if action.nargs == 0 else list(value) if isinstance(value, tuple) else value
     return found
+
+
+def recorded_path(path: str, out: str) -> str:
+    """A path as a record has it: as it is, or from OUT on."""
+    return path if os.path.isabs(path) else os.path.relpath(os.path.realpath(path), os.path.realpath(out))
 
 
 def given_parameter(settings: Settings, name: str) -> str | None:
@@ -83,3 +91,65 @@ def of_the_run(settings: Settings, other: Settings) -> Settings:
     names = [one.name for one in dataclasses.fields(Settings)
              if one.name in RUN_ONLY or one.name in OF_A_RUN]
     return settings.but(**{name: getattr(other, name) for name in names})
+
+
+# A page that is made again
+
+def given_on(options: argparse.Namespace, out: str) -> dict[str, Any]:
+    """The options that a command line gives, as a record has them; what only decides how a run goes is left out."""
+    found: dict[str, Any] = {}
+    for name, action in actions().items():
+        value = getattr(options, action.dest, None)
+        if value is None or name in RUN_ONLY or action.nargs == 0 and value == (action.const is False):
+            continue
+        found[name] = True if action.nargs == 0 else recorded_path(value, out) if action.dest in PATHS else value
+    return found
+
+
+def usual(name: str) -> Any:
+    """What a record would have for an option that is not given, if it had that."""
+    value = getattr(Settings(), actions()[name].dest, None)
+    return list(value) if isinstance(value, tuple) else value
+
+
+def settings_again(options: argparse.Namespace, chosen: Settings, out: str, pages: Sequence[int]) -> Settings:
+    """The settings for pages of a job that are made again: those that are recorded. Other ones on the command line are
+    refused without --force, and with it they replace those of the same name."""
+    recorded = [without_run_only(one) for one in recorded_options(out, pages)]
+    if not recorded:
+        return chosen
+    given = given_on(options, out)
+    for page, one in zip(pages, recorded):
+        differs = next((name for name in given if one.get(name, usual(name)) != given[name]), None)
+        if differs and not chosen.force:
+            was = one.get(differs, usual(differs))
+            raise UsageError(f"--{differs}: page {page} of {out} was made with {words_for(differs, was)}, and not with "
+                             f"{words_for(differs, given[differs])} (without it the recorded options are used; --force "
+                             f"makes the page with other ones)")
+    merged = [{**one, **given} for one in recorded]
+    other = next((page for page, one in zip(pages, merged) if one != merged[0]), None)
+    if other:
+        raise UsageError(f"--page: pages {pages[0]} and {other} of {out} were made with different options: make them "
+                         f"one after the other")
+    return of_the_run(settings_from(merged[0], out), chosen)
+
+
+def words_for(name: str, value: Any) -> str:
+    """An option and its value as people read them."""
+    if value is None or value == [] or value is False:
+        return f"no --{name}"
+    return f"--{name}" if value is True else f"--{name} {' '.join(value) if isinstance(value, list) else value}"
+
+
+def recorded_options(out: str, pages: Sequence[int]) -> list[dict[str, Any]]:
+    """The recorded options of each page, or of the job where a page has none; none at all where there is no record."""
+    job = read_record(out)
+    if OPTIONS not in job:
+        return []
+    folder = JobFolder(out)
+    found = []
+    for page in pages:
+        parts = [read_record(place) for place in (folder.page(page), folder.failed(page))]
+        part = next((one for one in parts if one), job)
+        found.append(options_of(part, page))
+    return found

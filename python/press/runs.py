@@ -56,13 +56,18 @@ def page_locks(job: JobFolder, pages: Sequence[int]) -> Iterator[None]:
     """Holds the folder for this run alone. Runs of single pages, as those of a cluster, may work in it beside
     each other, each page belonging to one run; press/farm holds the folder for the runs that it starts."""
     with contextlib.ExitStack() as stack:
-        if os.environ.get(HELD) != os.path.realpath(job.path):
+        if not is_held(job.path):
             stack.enter_context(locked(os.path.join(job.path, LOCK), job.path, "press-all", shared=bool(pages)))
         for page in pages:
             place = os.path.join(job.path, f"{LOCK}-{page:03d}")
             stack.enter_context(locked(place, f"{job.path}: page {page}", "press-all"))
         sweep(job.path)
         yield
+
+
+def is_held(out: str) -> bool:
+    """Whether this run is a page of a farm, which holds the folder."""
+    return os.environ.get(HELD) == os.path.realpath(out)
 
 
 def is_one_of_many() -> bool:
@@ -375,7 +380,7 @@ def run(path: str, out: str, settings: Settings = Settings(), pages: Sequence[in
 
 def begin(job: JobFolder, given: identity.Input, count: int, settings: Settings, pages: Sequence[int]) -> None:
     """Makes OUT the folder of this file. A farm has done so for the runs of its pages."""
-    if os.environ.get(HELD) == os.path.realpath(job.path):
+    if is_held(job.path):
         identity.need_same(job, given.file)
     else:
         identity.claim(job, given.file, count, settings, pages)
@@ -390,7 +395,7 @@ def finish(given: identity.Input, todo: Sequence[PageWork], ends: dict[int, Page
         for failed in identity.fail_mixed(todo[0].job, done, line):
             ends[failed.page] = failed
             observer(failed)
-    if todo and os.environ.get(HELD) != os.path.realpath(todo[0].job.path):
+    if todo and not is_held(todo[0].job.path):
         identity.gather(todo[0].job)
     return ends
 
