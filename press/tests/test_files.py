@@ -1,13 +1,24 @@
 # SPDX-License-Identifier: Apache-2.0
 """Outputs: what stands in the way, links, full disks, temporary files, and names with anything in them."""
 import os
+import re
 import subprocess
 from pathlib import Path
 from typing import Iterator
 
+import numpy
 import pytest
+from press.files import is_full
+from press.folder import JobFolder
+from press.plates import write_pgm
 from room import Room
+from small_pdf import page, pdf
 
+# Fills the disk when page 2 is trapped.
+FILLS = """#!/bin/sh
+case "$*" in *page.job*) if grep -q "Page 2 of" page.job; then cat /dev/zero > {disk}/fill; fi ;; esac
+exec {program} "$@"
+"""
 ODD_NAME, ODD_FOLDER = '-c "%s".pdf', "a %d: (b)'"
 
 
@@ -80,3 +91,29 @@ def test_full_disk(room: Room, small_disk: Path, built: None) -> None:
     done = room.run("plates", "two.pdf", small_disk / "page", "--dpi", "1200")
     assert done.status == 8 and "No space left on device" in done.err, done
     assert not (small_disk / "page").exists()
+
+
+def test_disk_that_fills_while_pages_are_made(room: Room, small_disk: Path, built: None) -> None:
+    """The page that finds no room names its file and the system's reason, and leaves its line alone. Finished pages stay and are
+    listed, and the others are tried."""
+    pdf(str(room / "job.pdf"), [page([], "1 0 0 0 k 10 10 40 28 re f 0 1 0 0 k 50 10 40 28 re f")] * 3)
+    room.script("trap", FILLS.format(disk=small_disk, program=os.path.realpath(room.programs / "trap")))
+    done = room.run("all", "--quiet", "--dpi", "72", "job.pdf", small_disk / "out", env={"TRAP_BIN": str(room.beside / "stand-ins")})
+    assert done.status == 1 and [line.partition(": ")[2][:6] for line in done.out.splitlines()] == ["done: ", "failed", "failed"], done
+    assert re.search(rf"^page 2: failed: press-\w+: {small_disk}/out/page-002\.failed\S*: No space left on device", done.out, re.MULTILINE), done
+    assert sorted(os.listdir(small_disk / "out/page-002.failed")) == ["job.json", "why"]
+    assert re.search(r"^page 3: failed: .*(No space left on device|the page takes about .* of disk)", done.out, re.MULTILINE), done
+    assert ".press-" not in done.out
+    assert (small_disk / "out/page-001/tiff").is_dir()
+
+
+@pytest.mark.plain
+def test_full_disk_takes_the_name_of_the_file(room: Room, small_disk: Path) -> None:
+    """A fault that names no file gets the name; what is left of a page is kept as far as there is room."""
+    (small_disk / "fill").write_bytes(b"")
+    with pytest.raises(OSError) as caught:
+        write_pgm(str(small_disk / "fill"), numpy.zeros((2000, 2000), "u1"), 255)
+    assert caught.value.filename == str(small_disk / "fill") and is_full(caught.value)
+    job = JobFolder(str(small_disk))
+    job.keep_failed(1, str(small_disk / "made"), "no room")
+    assert not (small_disk / "made").exists() or (small_disk / "page-001.failed").is_dir()

@@ -7,14 +7,13 @@ import math
 import os
 import re
 import subprocess
-import tempfile
 from collections.abc import Callable, Sequence
 from dataclasses import dataclass
 from typing import Any
 
 from . import tools
 from .errors import PressError, Status
-from .files import folder_beside, link_or_copy, need_room, put_folder
+from .files import folder_beside, link_or_copy, named, need_room, put_folder, scratch_folder
 from .folder import CHECK, JOB, JSON, REPORT, TRAPPED, PageFolder, read_layout
 from .inks import Ink
 from .job import Job, file_place, job_place
@@ -75,7 +74,7 @@ def judge(job: Job, names: Sequence[str]) -> None:
     """Refuses a job that the program does not take, by the file and the line that have the fault. The program
     is run over plates of one sample."""
     path = tools.program("trap")
-    with tempfile.TemporaryDirectory(prefix="press-") as folder:
+    with scratch_folder() as folder:
         with open(os.path.join(folder, "job"), "wb") as file:
             file.write(job.text)
         with open(os.path.join(folder, "plate"), "wb") as file:
@@ -188,7 +187,7 @@ def check(page: PageFolder, out: str, radius: int) -> tuple[str, ...]:
                 f"checked: {width} by {height} samples in {inked} plates with ink, and it takes {MOST_SAMPLES} samples "
                 f"and {LONGEST_SIDE} a side (at most {min(fits, dpi)} pixels per inch would fit)",)
     printed = run_on(page, "presscheck", [str(radius), JOB, *(f"{ink.name}:{ink.name}.pgm" for ink in page.inked)])
-    with open(page.file(out, CHECK), "wb") as file:
+    with named(page.file(TRAPPED, CHECK)), open(page.file(out, CHECK), "wb") as file:
         file.write(printed)
     return ()
 
@@ -212,6 +211,6 @@ def write_json(page: PageFolder, report: Report, made: str) -> None:
     layout = read_layout(page)
     if layout:
         text["layout"] = layout
-    with open(os.path.join(made, JSON), "w", encoding="utf-8") as file:
+    with named(page.file(TRAPPED, JSON)), open(os.path.join(made, JSON), "w", encoding="utf-8") as file:
         json.dump(text, file, indent=1)
         file.write("\n")

@@ -97,6 +97,22 @@ def need_folder(path: str) -> None:
 
 # Writing
 
+@contextlib.contextmanager
+def named(path: str) -> Iterator[None]:
+    """Gives the system's faults in the block the path of the file: those of a full disk name none."""
+    try:
+        yield
+    except OSError as fault:
+        if fault.filename is None:
+            fault.filename = path
+        raise
+
+
+def is_full(fault: BaseException | None) -> bool:
+    """Whether a fault is one of a disk that takes no more."""
+    return isinstance(fault, OSError) and fault.errno in NO_ROOM
+
+
 def umasked(mode: int) -> int:
     """The rights that a new file has."""
     mask = os.umask(0)
@@ -139,9 +155,10 @@ def whole_file(final: str) -> Iterator[str]:
     except OSError as fault:
         raise PressError(Status.OUTPUT, reason(fault), final) from fault
     try:
-        yield path
-        os.chmod(path, umasked(0o666))
-        os.replace(path, final)
+        with named(final):
+            yield path
+            os.chmod(path, umasked(0o666))
+            os.replace(path, final)
     finally:
         if os.path.exists(path):
             os.remove(path)
@@ -151,6 +168,15 @@ def write_text(final: str, text: str, errors: str = "strict") -> None:
     """Writes a text file as a whole."""
     with whole_file(final) as path, open(path, "w", encoding="utf-8", errors=errors) as file:
         file.write(text)
+
+
+@contextlib.contextmanager
+def scratch_folder() -> Iterator[str]:
+    """A folder of temporary files. What killed runs have left beside it is cleared away."""
+    place = tempfile.gettempdir()
+    sweep(place)
+    with tempfile.TemporaryDirectory(prefix=temporary_name(), dir=place) as path:
+        yield path
 
 
 @contextlib.contextmanager
@@ -196,8 +222,10 @@ def locked(path: str, place: str, who: str, shared: bool = False, seconds: float
     system releases it if the process ends in any way. If another run holds it for so many seconds, the refusal
     names that run."""
     handle = take_lock(path, place, fcntl.LOCK_SH if shared else fcntl.LOCK_EX, seconds)
-    os.truncate(handle, 0)
-    os.pwrite(handle, f"process {os.getpid()} on {socket.gethostname()}: {who}\n".encode(), 0)
+    # A full disk takes the lock, and not the line of who holds it.
+    with contextlib.suppress(OSError):
+        os.truncate(handle, 0)
+        os.pwrite(handle, f"process {os.getpid()} on {socket.gethostname()}: {who}\n".encode(), 0)
     try:
         yield
     finally:

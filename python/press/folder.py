@@ -11,7 +11,7 @@ from typing import Any
 
 from . import plates
 from .errors import PressError, Status, reason
-from .files import need_folder
+from .files import named, need_folder
 from .inks import Ink
 from .job_record import FAILED, PAGES, Record, file_of, page_of, read_record, write_record
 from .names import from_table, table_name
@@ -98,7 +98,7 @@ def write_table(path: str, source: PageSource, inks: tuple[Ink, ...]) -> None:
         lines.append("\t".join(("colorant", ink.name, ink.density, ink.kind, " ".join(f"{part:g}" for part in ink.look),
                                 "ink" if ink.has_ink else "blank", table_name(ink.suffix), table_name(ink.colorant),
                                 ink.role)))
-    with open(os.path.join(path, TABLE), "w", encoding="utf-8") as file:
+    with named(os.path.join(path, TABLE)), open(os.path.join(path, TABLE), "w", encoding="utf-8") as file:
         file.write(TABLE_HEAD + "\n".join(lines) + "\n")
 
 

@@ -64,7 +64,7 @@ def read_record(folder: str) -> Record:
     try:
         with open(path, encoding="utf-8") as file:
             found = json.load(file)
-    except FileNotFoundError:
+    except (FileNotFoundError, NotADirectoryError):
         return {}
     except OSError as fault:
         raise PressError(Status.INPUT, reason(fault), path) from fault

@@ -15,6 +15,7 @@ import numpy
 
 from . import images, tables
 from .errors import UsageError
+from .files import named
 from .findings import NOTE, WARNING, Finding
 from .inks import Ink
 from .job import Statement, read_all
@@ -104,7 +105,7 @@ class Layout:
 
     def write(self, path: str) -> None:
         """Writes the layout beside the page's job."""
-        with open(path, "w", encoding="utf-8") as file:
+        with named(path), open(path, "w", encoding="utf-8") as file:
             json.dump(self.as_data(), file)
             file.write("\n")
 

@@ -8,7 +8,7 @@ from typing import Any
 from . import job, precedence
 from .content import coverage_of, intent_profile
 from .errors import PressError, UsageError
-from .files import size_text
+from .files import named, size_text
 from .folder import JOB, TABLE, ZONES, PageFolder, PageSource, write_table
 from .icc import need_press_profile
 from .inkedits import InkEdits, edit_plates, pairs_of
@@ -125,7 +125,7 @@ def write_page(page: Page, settings: Settings, folder: str, layout: Layout | Non
 
 def write_folder(folder: str, source: PageSource, inks: tuple[Ink, ...], layout: Layout) -> PageFolder:
     """Writes the job, the layout and the table of a page whose plates are in the folder."""
-    with open(os.path.join(folder, JOB), "wb") as file:
+    with named(os.path.join(folder, JOB)), open(os.path.join(folder, JOB), "wb") as file:
         file.write(job.write_job(source, inks, layout.statements).text)
     layout.write(os.path.join(folder, ZONES))
     write_table(folder, source, inks)

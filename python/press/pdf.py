@@ -2,7 +2,6 @@
 """A trapped PDF: the pages of a PDF as they are, with the traps that were made of their plates on top, as one layer."""
 import io
 import os
-import tempfile
 from collections.abc import Sequence
 from dataclasses import dataclass, field
 from typing import Any, BinaryIO
@@ -11,6 +10,7 @@ import pikepdf
 
 from .content import fonts_outside, intent_profile
 from .errors import PressError, Status
+from .files import scratch_folder
 from .icc import need_press_profile
 from .output_report import full_disk_refused
 from .pdf_grid import box_of_plates, grid_matrix, inherited
@@ -183,7 +183,7 @@ def expected_of(done: PageResult, icc: str | None) -> Expected:
 
 def prove(path: str, result: PdfResult, settings: PdfSettings, shown: str) -> None:
     """Renders the file again, and refuses it if a byte of a trapped plate differs."""
-    with tempfile.TemporaryDirectory(prefix="press-") as scratch:
+    with scratch_folder() as scratch:
         profile = settings.icc
         if settings.output_intent and not profile and intent_profile(path, os.path.join(scratch, "intent.icc")):
             profile = os.path.join(scratch, "intent.icc")

@@ -1,9 +1,8 @@
 # SPDX-License-Identifier: Apache-2.0
 """The trapped PDF of a run, beside its proof sheet."""
 import os
-import tempfile
 
-from .files import whole_file
+from .files import scratch_folder, whole_file
 from .folder import JobFolder
 from .pdf import PdfSettings, write_trapped_pdf
 from .pdf_report import write_pdf_report
@@ -31,5 +30,5 @@ def write_beside(source: Source, out: str, settings: Settings) -> list[str]:
 
 def write_for(path: str, out: str, settings: Settings) -> list[str]:
     """The same of a file that is not open."""
-    with tempfile.TemporaryDirectory(prefix="press-") as scratch:
+    with scratch_folder() as scratch:
         return write_beside(open_source(path, scratch, settings.time), out, settings)

@@ -15,6 +15,7 @@ import numpy
 import numpy.typing
 
 from .errors import PressError, Status, reason
+from .files import named
 
 Array = numpy.typing.NDArray[Any]
 LONGEST_SIDE, MOST_SAMPLES = 16_384, 160_000_000
@@ -127,7 +128,7 @@ def write_pgm(path: str, array: Array, maxval: int) -> None:
     """Writes a raster (rows × columns, 0 is full ink) as a raw PGM file, block by block."""
     height, width = array.shape
     rows = max(1, BLOCK_BYTES // max(1, width * array.itemsize))
-    with open(path, "wb") as file:
+    with named(path), open(path, "wb") as file:
         file.write(b"P5\n%d %d\n%d\n" % (width, height, maxval))
         for start in range(0, height, rows):
             block = numpy.ascontiguousarray(array[start:start + rows], dtype="u1" if maxval < 256 else ">u2")

@@ -12,7 +12,7 @@ import numpy
 
 from . import content, engine, files, images, job, owner_files, precedence, tools
 from .errors import PressError, Status
-from .files import BYTE_ORDER_MARK, bytes_of, free_room, size_text
+from .files import BYTE_ORDER_MARK, bytes_of, free_room, scratch_folder, size_text
 from .findings import FAULT, NOTE, WARNING, Finding
 from .folder import PageSource
 from .inkedits import twins
@@ -91,7 +91,7 @@ class FileReport:
 
 def check(path: str, settings: Settings, pages: Sequence[int] = ()) -> FileReport:
     """Checks a file and these pages of it, or all, each rendered small. Nothing is written."""
-    with tempfile.TemporaryDirectory(prefix="press-") as scratch:
+    with scratch_folder() as scratch:
         source = open_source(path, scratch, settings.time)
         book = open_book(settings, path)
         found = [CONVERTED] if source.converted else []

@@ -7,7 +7,6 @@ import multiprocessing.connection
 import os
 import shutil
 import signal
-import tempfile
 import time
 import traceback
 from collections.abc import Iterator, Sequence
@@ -18,7 +17,7 @@ from . import engine, identity, job_record, look, page as pages_of_source, pdf_b
 from .errors import PressError, Status, reason
 from .events import (Event, FindingMade, Observer, PageDone, PageFailed, RunDone, RunStarted, StepDone, StepStarted,
                      Warned, silent)
-from .files import LOCK, disk_use, folder_beside, free_room, locked, sweep
+from .files import LOCK, disk_use, folder_beside, free_room, is_full, locked, scratch_folder, sweep
 from .findings import Finding, refusal_for
 from .folder import TIFF, TRAPPED, WARNINGS, JobFolder, PageFolder, read_table
 from .inks import InkBook, open_book
@@ -85,6 +84,14 @@ class StepFailed(Exception):
         self.command, self.refusal = command, refusal
 
 
+def refusal_of(fault: OSError, place: str) -> PressError:
+    """The refusal for a fault of the system, with the file that it names, or else a place."""
+    named = os.fsdecode(fault.filename) if isinstance(fault.filename, (str, bytes)) else place
+    refusal = PressError(Status.OUTPUT, reason(fault), named)
+    refusal.__cause__ = fault
+    return refusal
+
+
 @dataclass
 class PageWork:
     """The work on one page of a run."""
@@ -108,8 +115,7 @@ class PageWork:
         except PressError as refusal:
             raise StepFailed(command, refusal) from refusal
         except OSError as fault:
-            place = os.fsdecode(fault.filename) if isinstance(fault.filename, (str, bytes)) else "write"
-            raise StepFailed(command, PressError(Status.OUTPUT, reason(fault), place)) from fault
+            raise StepFailed(command, refusal_of(fault, self.job.page(self.number))) from fault
         self.observer(StepDone(self.number, what, time.monotonic() - start))
 
     def refuse(self) -> None:
@@ -223,7 +229,11 @@ class PageWork:
             except StepFailed as failed:
                 changed = self.given.changed_line()
                 why = f"press-all: {changed}" if changed else f"{failed.command}: {failed.refusal}"
-                why = why.replace(folder, self.job.failed(self.number))
+                for temporary in (folder, os.path.join(made, "scratch"), made):
+                    why = why.replace(temporary, self.job.failed(self.number))
+                if is_full(failed.refusal.__cause__):
+                    # The other pages get the room.
+                    shutil.rmtree(made, ignore_errors=True)
                 self.job.keep_failed(self.number, folder, why, self.part({}))
                 return PageFailed(self.number, failed.refusal.status, why)
             if self.settings.tiff_only:
@@ -249,6 +259,11 @@ def work(todo: PageWork, end: Connection, parent: int) -> None:
     todo.observer = end.send
     try:
         end.send(todo.do())
+    except OSError as fault:
+        why = f"press-all: {refusal_of(fault, todo.job.page(todo.number))}"
+        end.send(PageFailed(todo.number, Status.OUTPUT, why))
+    except PressError as refusal:
+        end.send(PageFailed(todo.number, refusal.status, f"press-all: {refusal}"))
     except MemoryError:
         end.send(PageFailed(todo.number, Status.OUTPUT, "press-all: there is not enough memory"))
     except Exception as fault:  # pylint: disable=broad-exception-caught
@@ -326,7 +341,7 @@ def keep_lost(todo: PageWork, end: PageDone | PageFailed) -> None:
     """Leaves the line that says why for a page whose process could not."""
     if isinstance(end, PageFailed) and not os.path.lexists(todo.job.failed(todo.number)):
         sweep(todo.job.path)
-        with folder_beside(todo.job.path, inside=True) as made:
+        with contextlib.suppress(PressError), folder_beside(todo.job.path, inside=True) as made:
             todo.job.keep_failed(todo.number, os.path.join(made, "page"), end.why, todo.part({}))
 
 
@@ -352,7 +367,7 @@ def run(path: str, out: str, settings: Settings = Settings(), pages: Sequence[in
     given, job = identity.Input.take(path), JobFolder(out)
     identity.judge(job, job_record.read_record(out), given.file, settings.force, bool(pages))
     tools.program("trap")
-    with tempfile.TemporaryDirectory(prefix="press-") as scratch:
+    with scratch_folder() as scratch:
         source = open_source(path, scratch, settings.time)
         numbers = list(pages) or list(range(1, source.count + 1))
         findings: list[Finding] = []
@@ -396,8 +411,16 @@ def finish(given: identity.Input, todo: Sequence[PageWork], ends: dict[int, Page
             ends[failed.page] = failed
             observer(failed)
     if todo and not is_held(todo[0].job.path):
-        identity.gather(todo[0].job)
+        try:
+            identity.gather(todo[0].job)
+        except (PressError, OSError) as fault:
+            observer(Warned(None, "press-all", f"the pages are not in the record: {line_of(fault, todo[0].job.path)}"))
     return ends
+
+
+def line_of(fault: PressError | OSError, place: str) -> str:
+    """What people read of a refusal or a fault of the system."""
+    return str(refusal_of(fault, place) if isinstance(fault, OSError) else fault)
 
 
 def make_pdf(source: Source, out: str, settings: Settings, observer: Observer) -> str | None:
@@ -407,9 +430,10 @@ def make_pdf(source: Source, out: str, settings: Settings, observer: Observer) -
         for line in pdf_beside.write_beside(source, out, settings):
             observer(Warned(None, "press-pdf", f"{source.path}: {line}"))
         return None
-    except PressError as refusal:
-        observer(Warned(None, "press-pdf", f"no trapped PDF: {refusal}"))
-        return str(refusal)
+    except (PressError, OSError) as fault:
+        why = line_of(fault, out)
+        observer(Warned(None, "press-pdf", f"no trapped PDF: {why}"))
+        return why
 
 
 def make_sheet(out: str, observer: Observer) -> None:
@@ -417,5 +441,5 @@ def make_sheet(out: str, observer: Observer) -> None:
     observer(StepStarted(None, "proof sheet"))
     try:
         proof.write_sheet_of_all(out)
-    except PressError as refusal:
-        observer(Warned(None, "press-all", f"{out}: no proof sheet: press-proof: {refusal}"))
+    except (PressError, OSError) as fault:
+        observer(Warned(None, "press-all", f"{out}: no proof sheet: press-proof: {line_of(fault, out)}"))

@@ -14,7 +14,7 @@ from PIL import Image, UnidentifiedImageError
 
 from . import picture
 from .errors import PressError, Status, UsageError, reason
-from .files import folder_beside, head_of
+from .files import folder_beside, head_of, named
 from .folder import PageFolder
 from .inks import Ink
 from .multi_tiff import multi_tags
@@ -82,7 +82,7 @@ def write_separation(path: bytes, array: Array, resolution: int) -> None:
     mode = "L" if array.dtype.itemsize == 1 else "I;16B"
     image = Image.frombuffer(mode, (width, height), array, "raw", mode, 0, 1)
     # By its handle: the encoder takes no name that is not UTF-8.
-    with open(os.open(path, os.O_RDWR | os.O_CREAT | os.O_TRUNC, 0o666), "w+b") as file:
+    with named(os.fsdecode(path)), open(os.open(path, os.O_RDWR | os.O_CREAT | os.O_TRUNC, 0o666), "w+b") as file:
         image.save(file, format="TIFF", compression="tiff_lzw", dpi=(resolution, resolution), tiffinfo={CHANNELS: 1})
 
 
@@ -100,7 +100,8 @@ class TiffPage:
 
 def write_composite(path: bytes, inks: Sequence[Ink], plates: Plates, channels: bool) -> None:
     """Writes all inks into one file, in which the greatest value is full ink, packed by Deflate."""
-    with tifffile.TiffWriter(os.fsdecode(path), bigtiff=False, byteorder="<") as writer:
+    name = os.fsdecode(path)
+    with named(name), tifffile.TiffWriter(name, bigtiff=False, byteorder="<") as writer:
         for page in composite_pages(inks, plates, channels):
             write_page(writer, page, plates)
 
@@ -108,7 +109,8 @@ def write_composite(path: bytes, inks: Sequence[Ink], plates: Plates, channels: 
 def write_multi(path: bytes, page: PageFolder, plates: Plates) -> None:
     """Writes all inks as channels of one page, in which the greatest value is full ink, packed by Deflate."""
     tags = multi_tags(page.inks, page.path)
-    with tifffile.TiffWriter(os.fsdecode(path), bigtiff=False, byteorder="<") as writer:
+    name = os.fsdecode(path)
+    with named(name), tifffile.TiffWriter(name, bigtiff=False, byteorder="<") as writer:
         write_page(writer, TiffPage(plates.arrays, "separated", tags), plates)
 
 
