@@ -126,11 +126,11 @@ def test_other_bytes_of_the_name(room: Room) -> None:
 def test_a_page_of_other_bytes(room: Room) -> None:
     """One page of a file with other bytes is refused; by --force it is made, and the preview leaves the old pages out."""
     pages_of(room / "job.pdf", GRAY, CYAN)
-    room.goes(*ALL, "job.pdf", "out")
+    room.goes("all", "--quiet", "--dpi", "72", "job.pdf", "out")
     pages_of(room / "job.pdf", PAIR, CYAN)
     room.refused(8, r"press-all: out: its pages are of other bytes of job\.pdf \(SHA-256 [0-9a-f]{12}\.\. then, [0-9a-f]{12}\.\. now\): .*",
-                 *ALL, "--page", "1", "job.pdf", "out")
-    room.goes("all", "--quiet", "--dpi", "72", "--page", "1", "--force", "job.pdf", "out")
+                 "all", "--quiet", "--page", "1", "job.pdf", "out")
+    room.goes("all", "--quiet", "--page", "1", "--force", "job.pdf", "out")
     assert list(JobFolder(str(room / "out")).pages()[0]) == [1] and (room / "out/page-002").is_dir()
     assert 'id="page-2"' not in (room / "out/proof.html").read_text() and 'id="page-1"' in (room / "out/proof.html").read_text()
 

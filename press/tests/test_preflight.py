@@ -3,7 +3,9 @@
 import json
 import re
 
+import pikepdf
 import pytest
+from pikepdf import Dictionary, Name
 from room import LABEL, Room
 
 
@@ -111,6 +113,25 @@ def test_json(room: Room) -> None:
     told = json.loads(check(room, "--json", "damaged.pdf"))
     assert [one["kind"] for one in told["findings"]] == ["repaired"]
     assert told["takes"][0]["width"] == 1000
+
+
+def test_form_field_without_an_appearance(room: Room, built: None) -> None:
+    """Ghostscript draws it, which is a note and no fault, and --strict makes the page; a true fault beside it is a warning still."""
+    room.sample("pair.pdf")
+    with pikepdf.open(room / "pair.pdf") as file:
+        font = Dictionary(Type=Name.Font, Subtype=Name.Type1, BaseFont=Name.Helvetica)
+        field = file.make_indirect(Dictionary(Type=Name.Annot, Subtype=Name.Widget, FT=Name.Tx, T="name", V="Ada", DA="/Helv 9 Tf 0 g",
+                                              Rect=[95, 10, 118, 30], F=4))
+        file.Root.AcroForm = Dictionary(Fields=[field], DA="/Helv 9 Tf 0 g", DR=Dictionary(Font=Dictionary(Helv=font)))
+        file.pages[0].Annots = file.make_indirect(pikepdf.Array([field]))
+        file.save(room / "form.pdf")
+        file.pages[0].Contents = file.make_stream(file.pages[0].Contents.read_bytes() + b" Q")
+        file.save(room / "both.pdf")
+    told = check(room, "--strict", "form.pdf")
+    has(told, r'form\.pdf: page 1: note: form-field: the PDF gives no appearance for the form field "name": Ghostscript draws it')
+    assert "repaired" not in told
+    room.refused_after(10, r"both\.pdf: page 1: note: form-field: .*", "preflight", "--strict", "both.pdf")
+    room.goes("all", "--quiet", "--no-proof", "--strict", "form.pdf", "out")
 
 
 def test_repaired_files(room: Room, built: None) -> None:

@@ -17,7 +17,7 @@ from .errors import UsageError
 from .files import beside, table_lines
 from .names import PROCESS, file_name, readable
 from .settings import Settings, house_file
-from .tools import PRESS
+from .tools import PRESS, shown
 
 # An ink that looks like no ink at all, a white say, is not without density.
 LEAST_GUESS = 0.05
@@ -229,11 +229,12 @@ class Shelf:
 
     def __init__(self, name: str) -> None:
         self.entries = []
-        for number, line in entries_of(os.path.join(LIBRARY, name)):
+        path = os.path.join(LIBRARY, name)
+        for number, line in entries_of(path):
             pattern, density, kind, source, *rest = line.split("\t")
             role = rest[0] if rest and rest[0] in ROLES else "metallic" if kind == "Opaque" else None
             known = Known(None if density == "-" else density, None if kind == "-" else kind,
-                          f"press/inks/{name}, line {number}: {source}", role)
+                          f"{shown(path)}, line {number}: {source}", role)
             self.entries.append((pattern.casefold(), known))
 
     def whole(self, name: bytes) -> Known | None:

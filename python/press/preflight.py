@@ -12,6 +12,7 @@ import numpy
 
 from . import content, engine, files, images, job, owner_files, precedence, tools
 from .errors import PressError, Status
+from .fields import OF_FIELDS, fields_without_appearance
 from .files import BYTE_ORDER_MARK, bytes_of, free_room, scratch_folder, size_text
 from .findings import FAULT, NOTE, WARNING, Finding
 from .folder import PageSource
@@ -325,10 +326,16 @@ def merged(findings: Sequence[Finding], source: Source, page: int, report: PageR
 
 
 def ghostscript_findings(page: Page) -> Iterator[Finding]:
-    """What Ghostscript repaired, and the fonts that the PDF lacks."""
-    if page.rendering.repairs:
+    """What Ghostscript repaired, the form fields that it draws by itself, and the fonts that the PDF lacks."""
+    repairs = page.rendering.repairs
+    names = fields_without_appearance(page.source, page.number) if OF_FIELDS in repairs else []
+    if names:
+        yield Finding("form-field", NOTE, page.number, f"the PDF gives no appearance for the form "
+                      f"{'field' if len(names) == 1 else 'fields'} {', '.join(names)}: Ghostscript draws it")
+        repairs = tuple(one for one in repairs if one != OF_FIELDS)
+    if repairs:
         yield Finding("repaired", WARNING, page.number, "Ghostscript finds faults in the PDF, and goes on as well as "
-                      "it can: " + "; ".join(page.rendering.repairs))
+                      "it can: " + "; ".join(repairs))
     for font, taken in page.rendering.fonts:
         yield Finding("font", WARNING, page.number, f"the PDF lacks the font {font}; {taken} stands in its place")
 

@@ -185,6 +185,12 @@ def library() -> str | None:
     return next((place for place in (beside, built, released) if os.path.isfile(place)), None)
 
 
+def shown(path: str) -> str:
+    """The path of a file of the press commands for people: from the top of the repository, or whole if the commands
+    are installed."""
+    return os.path.relpath(path, TOP) if is_program(FINDER) else path
+
+
 def has_program(name: str) -> bool:
     """Whether a trapping program is there."""
     try:
