@@ -86,11 +86,46 @@ def refused():
         raise AssertionError("%r is no plane" % plane)
 
 
+def window(**changed):
+    """Traps a window of 40 by 40 samples, by itself a sheet, with some arguments changed."""
+    given = {"names": INKS, "sheet": (40, 40), "at": (0, 0), "core": (0, 0, 40, 40), **changed}
+    return trapping.trap_window(JOB, given.pop("names"), bytearray(4 * 40 * 40), width=40, height=40, **given)
+
+
+def raises(error, call):
+    try:
+        call()
+    except error:
+        return
+    raise AssertionError("no %s" % error.__name__)
+
+
+def wrong_arguments():
+    assert window().edges == 0
+    for changed in ({"core": (0, 0, 40)}, {"core": ()}, {"sheet": (40, 40, 0, 0), "at": ()}, {"core": (0, 0, 0, 40)},
+                    {"core": (0, 0, 40, 0)}, {"core": (0, 0, 40, 40, 1)}, {"at": (0, -1)}, {"names": ["Cyan", "Magenta\nYellow"]}):
+        raises(ValueError, lambda given=changed: window(**given))
+    raises(TypeError, lambda: window(names="Cyan"))
+    for changed in ({"step": 0}, {"core": (0, 0, 41, 40)}):
+        raises(trapping.Refusal, lambda given=changed: window(**given))
+    for job in (5, None, 1 << 40):
+        raises(TypeError, lambda given=job: trapping.halo(given))
+
+
+def shared_memory():
+    one = numpy.zeros((40, 80), numpy.uint8)
+    for cyan, magenta in ((one, one), (one[:20], one[10:30]), (one[:, :40], one[:, 39:79])):
+        raises(ValueError, lambda first=cyan, second=magenta: trapping.trap(JOB, {"Cyan": first, "Magenta": second}))
+    assert trapping.trap(JOB, {"Cyan": one[:, :40], "Magenta": one[:, 40:]}).edges == 0
+    assert trapping.trap(JOB, {"Cyan": one[:20][::-1], "Magenta": one[20:]}).edges == 0
+
+
 def threads():
     with ThreadPoolExecutor(4) as pool:
         list(pool.map(trap_apart, [numpy.uint8, numpy.uint16] * 4))
 
 
-for tried in (lambda: trap_apart(numpy.uint8), lambda: trap_apart(numpy.uint16), trap_views, trap_stacks, refused, threads):
+for tried in (lambda: trap_apart(numpy.uint8), lambda: trap_apart(numpy.uint16), trap_views, trap_stacks, refused, wrong_arguments, shared_memory,
+              threads):
     tried()
-print("library: NumPy arrays, views, stacks, refusals and four threads, as they have to be")
+print("library: NumPy arrays, views, stacks, refusals, wrong arguments and four threads, as they have to be")

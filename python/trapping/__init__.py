@@ -12,10 +12,12 @@ memoryview. 0 is no ink, `maxval` is full ink. Rows run from the top, samples in
 
 Any number of threads may trap at once, each its own planes: the GIL is released during the call.
 """
+from ._arguments import Job
 from ._library import library_path
 from ._planes import Samples
 from ._refusal import Refusal
 from ._report import Report, Zone
 from ._trap import halo, library_version, trap, trap_stack, trap_window
 
-__all__ = ["Refusal", "Report", "Samples", "Zone", "halo", "library_path", "library_version", "trap", "trap_stack", "trap_window"]
+__all__ = ["Job", "Refusal", "Report", "Samples", "Zone", "halo", "library_path", "library_version", "trap",
+           "trap_stack", "trap_window"]

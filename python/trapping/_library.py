@@ -52,7 +52,9 @@ def _load() -> ctypes.CDLL:
 def export(name: str) -> Callable[..., int]:
     """The export of that name, with the arguments that trap.h gives it. The library is loaded at the first call."""
     if name not in _exports:
-        found: Any = getattr(_load(), name)
+        found: Any = getattr(_load(), name, None)
+        if found is None:
+            raise ImportError(f"{library_path()} is not libtrap: it has no {name}")
         found.restype = ctypes.c_uint32 if name == "trap_version" else ctypes.c_uint8
         found.argtypes = _ARGUMENTS[name]
         _exports[name] = found

@@ -2,7 +2,7 @@
 """Planes as Python holds them: where the samples of a buffer lie."""
 import ctypes
 import sys
-from typing import TYPE_CHECKING, Any, NamedTuple, Optional, Tuple, Union
+from typing import TYPE_CHECKING, Any, Iterator, NamedTuple, Optional, Tuple, Union
 
 if TYPE_CHECKING:
     import array
@@ -37,6 +37,23 @@ class Memory(NamedTuple):
         for side in self.shape:
             count *= side
         return count
+
+    def rows(self) -> Iterator[Tuple[int, int]]:
+        """Where each row begins and ends in memory."""
+        row = self.shape[-1] * self.size
+        starts = [self.address]
+        for side, stride in zip(self.shape[:-1], self.strides[:-1]):
+            starts = [start + k * stride for start in starts for k in range(side)]
+        return ((start, start + row) for start in starts)
+
+    def span(self) -> Tuple[int, int]:
+        """The lowest address of a sample, and the end of the highest."""
+        if not self.sample_count():
+            return self.address, self.address
+        ways = [(side - 1) * stride for side, stride in zip(self.shape, self.strides)]
+        low = sum(min(0, way) for way in ways)
+        high = sum(max(0, way) for way in ways)
+        return self.address + low, self.address + high + self.size
 
 
 def memory_of(samples: Samples) -> Memory:

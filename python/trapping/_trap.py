@@ -1,14 +1,14 @@
 # SPDX-License-Identifier: Apache-2.0
 """The calls that trap a page, or a window of a sheet."""
 import ctypes
-from typing import Any, List, Mapping, Optional, Sequence, Tuple, Union
+from typing import Any, List, Mapping, Optional, Sequence, Tuple
 
+from ._arguments import Job, check_apart, job_bytes, name_lines, numbers
+from ._arguments import place as place_of
 from ._library import Place, export
 from ._planes import Memory, Samples, Stack, memory_of, sides_of
 from ._refusal import Refusal
 from ._report import Report
-
-Job = Union[bytes, bytearray, str]
 
 # A buffer of this size holds every report and every error line (TRAP_TEXT_SIZE of trap.h).
 _TEXT_SIZE = 16384
@@ -27,7 +27,7 @@ def trap(job: Job, planes: Mapping[str, Samples], *, maxval: Optional[int] = Non
 
     Planes that are not adjacent in memory, in the order of the mapping, are copied there and back; trap_stack takes one array
     of all planes and copies nothing. Raises Refusal for a fault of the job, the page or the arguments, and TypeError or
-    ValueError for buffers that are not planes of one size; no plane is then changed.
+    ValueError for buffers that are not planes of one size or share memory; no plane is then changed.
     """
     found = [memory_of(plane) for plane in planes.values()]
     if not found:
@@ -35,6 +35,7 @@ def trap(job: Job, planes: Mapping[str, Samples], *, maxval: Optional[int] = Non
     width, height = sides_of(found[0], width, height)
     for name, memory in zip(planes, found):
         _check(name, memory, found[0], width, height)
+    check_apart(found)
     names = list(planes)
     if _are_adjacent(found, width, height):
         return _call(job, names, found[0].address, found[0].size, width, height, width, maxval, len(found) * width * height)
@@ -66,7 +67,7 @@ def _stack(stack: Samples, width: Optional[int], height: Optional[int], step: Op
     if step is None:
         step = memory.shape[-1] if len(memory.shape) > 1 else width
     width, height = sides_of(memory, width, height)
-    return memory, width, height, step or width
+    return memory, width, height, width if step is None else step
 
 
 def trap_window(job: Job, names: Sequence[str], window: Samples, *, sheet: Tuple[int, int], at: Tuple[int, int] = (0, 0),
@@ -82,9 +83,10 @@ def trap_window(job: Job, names: Sequence[str], window: Samples, *, sheet: Tuple
 
     On each side that is not a border of the sheet the window extends at least `halo` samples beyond its core. Returns the
     core's part of the report: the counts of cores that tile a sheet add up to those of the sheet. Otherwise like `trap_stack`;
-    an invalid place raises a Refusal of the kind "Place".
+    raises ValueError for a tuple of another length and for an empty core, and a Refusal of the kind "Place" for a place that
+    does not fit.
     """
-    place = Place(*_numbers(*sheet, *at, *core))
+    place = place_of(sheet, at, core)
     memory, width, height, step = _stack(window, width, height, step)
     return _call(job, names, memory.address, memory.size, width, height, step, maxval, memory.sample_count(), place)
 
@@ -92,7 +94,7 @@ def trap_window(job: Job, names: Sequence[str], window: Samples, *, sheet: Tuple
 def halo(job: Job) -> int:
     """The rows and columns that a window needs around its core, on each side that is not a border of the sheet: half the reach of
     the job's widest trap in whole samples, and at least one. Raises Refusal if the job has a fault."""
-    data, number = _job_bytes(job), ctypes.c_uint32(0)
+    data, number = job_bytes(job), ctypes.c_uint32(0)
     text, length = ctypes.create_string_buffer(_TEXT_SIZE), ctypes.c_size_t(0)
     status = export("trap_halo")(data, len(data), ctypes.byref(number), ctypes.addressof(text), _TEXT_SIZE, ctypes.byref(length))
     _text(status, text, length)
@@ -121,18 +123,6 @@ def _are_adjacent(planes: List[Memory], width: int, height: int) -> bool:
     return all(memory.is_packed() and memory.address == planes[0].address + c * plane for c, memory in enumerate(planes))
 
 
-def _numbers(*numbers: int) -> Tuple[int, ...]:
-    """The numbers, if each fits into 32 bits; otherwise a ValueError."""
-    for number in numbers:
-        if not 0 <= number < 1 << 32:
-            raise ValueError("%d does not fit into 32 bits" % number)
-    return numbers
-
-
-def _job_bytes(job: Job) -> bytes:
-    return job.encode() if isinstance(job, str) else bytes(job)
-
-
 def _text(status: int, text: Any, length: Any) -> str:
     """The text of a call; a Refusal if it failed."""
     printed = text.raw[:min(length.value, _TEXT_SIZE)].decode("ascii")
@@ -146,9 +136,9 @@ def _call(job: Job, names: Sequence[str], address: int, size: int, width: int, h
     """Calls the library on samples in memory: of a page, or of a window if there is a place."""
     if maxval is None:
         maxval = 255 if size == 1 else 65535
-    layout = _numbers(width, height, step, maxval)
-    data = _job_bytes(job)
-    listed = "\n".join(names).encode()
+    layout = numbers(width, height, step, maxval)
+    data = job_bytes(job)
+    listed = name_lines(names)
     text, length = ctypes.create_string_buffer(_TEXT_SIZE), ctypes.c_size_t(0)
     placed = () if place is None else (ctypes.byref(place),)
     status = export("trap_%s%d" % ("planes" if place is None else "window", 8 * size))(
