@@ -2,6 +2,7 @@
 """The record of a job, and the file that a folder OUT belongs to."""
 import json
 import os
+import re
 import shutil
 from pathlib import Path
 from typing import Any
@@ -198,3 +199,46 @@ def test_a_page_made_again_uses_the_recorded_options(room: Room) -> None:
     assert found["options"]["dpi"] == 72 and found["pages"]["2"]["options"] == {**found["pages"]["1"]["options"], "dpi": 36}
     room.refused(2, r"press-all: --page: pages 1 and 2 of out were made with different options: make them one after the other .*", "all",
                  "--quiet", "--page", "1,2", "job.pdf", "out")
+
+
+@pytest.mark.usefixtures("built")
+@pytest.mark.parametrize("kept", ["plates", "TIFF files"])
+def test_only_changed(room: Room, kept: str) -> None:
+    """A page with the same plates, job and options keeps its results, edits and approval among them; the others are made anew."""
+    options = ["--tiff-only"] if kept == "TIFF files" else []
+    pages_of(room / "job.pdf", GRAY, PAIR, CYAN)
+    room.goes("all", "--quiet", "--dpi", "288", *options, "job.pdf", "out")
+    with job_record.changing_record(str(room / "out")) as found:
+        found["desk"] = {"1": {"approval": {"verdict": "approved"}}}
+    with open(room / "out/page-001/page.job", "a", encoding="ascii") as file:
+        file.write("% edited\n")
+    report = (room / "out/page-001/trapped/report").stat()
+    pages_of(room / "job.pdf", GRAY, PAIR.replace("50 10", "48 10"))
+    done = room.goes("all", "--quiet", "--dpi", "288", *options, "--only-changed", "job.pdf", "out")
+    assert re.fullmatch(r"page 1: done: not changed, its results are kept; .*\npage 2: done: 4 plates, [1-9]\d* samples changed, .*\n", done.out), done
+    assert (room / "out/page-001/trapped/report").stat() == report
+    assert (room / "out/page-001/page.job").read_text().endswith("% edited\n")
+    found = record(room / "out")
+    assert list(found["pages"]) == ["1", "2"] and "lapsed" not in found["desk"]["1"]["approval"]
+    assert {one["sha256"] for one in found["pages"].values()} == {found["file"]["sha256"]} == {record(room / "out/page-001")["file"]["sha256"]}
+    done = room.goes("all", "--quiet", "--dpi", "288", *options, "--only-changed", "--step", "0.5", "job.pdf", "out")
+    assert "kept" not in done.out, done
+
+
+@pytest.mark.usefixtures("built")
+def test_json_lines(room: Room) -> None:
+    """Each event is an object on a line of its own, a refusal too; nothing else is on standard output."""
+    pages_of(room / "job.pdf", GRAY, CYAN)
+    room.write("job.2.zones", "gsave\n")
+    done = room.run("all", "--json", "--dpi", "72", "--no-proof", "job.pdf", "out")
+    events = [json.loads(line) for line in done.out.splitlines()]
+    assert done.status == 1 and not done.err, done
+    assert events[0] == {"event": "run-started", "path": "job.pdf", "pages": [1, 2], "count": 2, "converted": False}
+    assert events[-1] == {"event": "run-done", "failed": [2]}
+    findings = {one["kind"]: one for one in events if one["event"] == "finding" and one["page"] is None}
+    assert findings["trap-width"]["level"] == "warning" and "nothing is trapped" in findings["trap-width"]["text"]
+    ends = {one["page"]: one for one in events if one["event"] in ("page-done", "page-failed")}
+    assert ends[1]["plates"] == 4 and ends[1]["kept"] is False and ends[2]["status"] == 9 and "job.2.zones: line 1" in ends[2]["why"]
+    done = room.run("all", "--json", "none.pdf", "out")
+    assert done.status == 4 and done.err == "press-all: none.pdf: No such file or directory\n"
+    assert json.loads(done.out) == {"event": "refused", "status": 4, "place": "none.pdf", "text": "No such file or directory"}

@@ -54,13 +54,15 @@ class Warned:
 
 @dataclass(frozen=True)
 class PageDone:
-    """A page is in OUT: how many plates it has, how many samples changed, and the bytes of disk that it takes."""
+    """A page is in OUT: how many plates it has, how many samples changed, the bytes of disk that it takes, and whether
+    it has what an earlier run made, since its plates are the same."""
 
     page: int
     plates: int
     changed: int
     seconds: float
     disk: int
+    kept: bool = False
 
 
 @dataclass(frozen=True)

@@ -74,6 +74,8 @@ def claim(job: JobFolder, file: InputFile, count: int, settings: Settings, pages
         is_same = file_of(record) == file
         if names and not is_same:
             take_over(job, record, names, count)
+            if not settings.only_changed:
+                lapse(record)
         record[FILE] = vars(file).copy()
         if not (pages and is_same and OPTIONS in record):
             record[OPTIONS] = options_from(settings, job.path)
@@ -118,6 +120,10 @@ def take_over(job: JobFolder, record: Record, names: set[str], count: int) -> No
     for name in (SHEET, *(f"{stem}-trapped.{end}" for stem in stems for end in ("pdf", "json"))):
         with contextlib.suppress(FileNotFoundError):
             os.remove(os.path.join(job.path, name))
+
+
+def lapse(record: Record) -> None:
+    """Ends the approvals of all pages. Those of pages that differ end by themselves, since they have a digest."""
     for said in record.get(DESK, {}).values():
         if isinstance(said, dict) and isinstance(said.get("approval"), dict):
             said["approval"].setdefault("lapsed", time.strftime("%Y-%m-%d %H:%M:%S%z"))

@@ -20,6 +20,11 @@ def complain(line: str) -> None:
     print(line, file=sys.stderr, flush=True)
 
 
+def put(line: str) -> None:
+    """A line on standard output."""
+    print(line, flush=True)
+
+
 class RunLines:
     """An observer that prints the progress of a run: each finding once, and not once a page. `emit` takes a line."""
 
@@ -87,6 +92,9 @@ def end_line(end: PageDone | PageFailed) -> str:
     """How a page ended."""
     if isinstance(end, PageFailed):
         return f"page {end.page}: failed: {end.why}"
+    if end.kept:
+        return (f"page {end.page}: done: not changed, its results are kept; {end.seconds:.1f} s, "
+                f"{size_text(end.disk)} of disk")
     return (f"page {end.page}: done: {end.plates} plates, {end.changed} samples changed, {end.seconds:.1f} s, "
             f"{size_text(end.disk)} of disk")
 

@@ -13,7 +13,8 @@ from collections.abc import Iterator, Sequence
 from dataclasses import dataclass
 from multiprocessing.connection import Connection
 
-from . import engine, identity, job_record, look, page as pages_of_source, pdf_beside, preflight, proof, tiff, tools
+from . import (engine, identity, job_record, look, page as pages_of_source, pdf_beside, preflight, proof, tiff, tools,
+               unchanged)
 from .errors import PressError, Status, reason
 from .events import (Event, FindingMade, Observer, PageDone, PageFailed, RunDone, RunStarted, StepDone, StepStarted,
                      Warned, silent)
@@ -145,8 +146,9 @@ class PageWork:
         self.refuse()
         return page
 
-    def make(self, folder: str) -> engine.Report:
-        """Goes the whole way into a folder: plates, traps, TIFF files, pictures and proof."""
+    def make(self, folder: str) -> engine.Report | None:
+        """Goes the whole way into a folder: plates, traps, TIFF files, pictures and proof; None if the page has not
+        changed, and keeps what it has."""
         scratch = os.path.join(os.path.dirname(folder), "scratch")
         with self.step("a look", "press-preflight"):
             os.mkdir(scratch)
@@ -155,7 +157,8 @@ class PageWork:
             os.mkdir(folder)
             layout = pages_of_source.layout_of(page, self.settings)
             made = pages_of_source.write_page(page, self.settings, folder, layout)
-            self.write_record(page, made)
+            part = self.part(pages_of_source.record_of(page, self.settings, made))
+            job_record.write_record(folder, part)
             for one in layout.findings(self.number, self.settings.dpi):
                 self.found.append(one)
                 self.observer(FindingMade(one))
@@ -163,6 +166,11 @@ class PageWork:
             # Ghostscript's planes are not needed any more.
             del page
             shutil.rmtree(scratch)
+        if self.settings.only_changed:
+            if unchanged.is_unchanged(self.job.page(self.number), made, part):
+                unchanged.keep(self.job.page(self.number), made, part)
+                return None
+            self.remove_old()
         with self.step("traps", "press-trap"):
             trapped = engine.trap(made, self.settings)
             self.warn("press-trap", trapped.warnings)
@@ -176,9 +184,12 @@ class PageWork:
             self.make_part(made)
         return trapped.report
 
-    def write_record(self, page: pages_of_source.Page, made: PageFolder) -> None:
-        """Keeps the page's part of the job's record in its folder."""
-        job_record.write_record(made.path, self.part(pages_of_source.record_of(page, self.settings, made)))
+    def remove_old(self) -> None:
+        """Removes what an earlier run made of the page."""
+        try:
+            self.job.remove_old(self.number)
+        except PressError as refusal:
+            raise StepFailed("press-all", refusal) from refusal
 
     def part(self, page: job_record.Record) -> job_record.Record:
         """The record of the page, of which so much is known."""
@@ -220,10 +231,8 @@ class PageWork:
         with folder_beside(self.job.path, inside=True) as made:
             folder = os.path.join(made, "page")
             try:
-                try:
-                    self.job.remove_old(self.number)
-                except PressError as refusal:
-                    raise StepFailed("press-all", refusal) from refusal
+                if not self.settings.only_changed:
+                    self.remove_old()
                 report = self.make(folder)
                 self.need_same()
             except StepFailed as failed:
@@ -234,13 +243,18 @@ class PageWork:
                 if is_full(failed.refusal.__cause__):
                     # The other pages get the room.
                     shutil.rmtree(made, ignore_errors=True)
+                with contextlib.suppress(PressError):
+                    self.job.remove_old(self.number)
                 self.job.keep_failed(self.number, folder, why, self.part({}))
                 return PageFailed(self.number, failed.refusal.status, why)
-            if self.settings.tiff_only:
-                drop_plates(folder)
-            plates, disk = len(read_table(folder)[1]), disk_use(folder)
-            os.rename(folder, final)
-        return PageDone(self.number, plates, report.changed, time.monotonic() - start, disk)
+            if report:
+                if self.settings.tiff_only:
+                    unchanged.record_plates(folder, self.number)
+                    drop_plates(folder)
+                os.rename(folder, final)
+        changed = (report or engine.read_report(final)).changed
+        return PageDone(self.number, len(read_table(final)[1]), changed, time.monotonic() - start, disk_use(final),
+                        kept=report is None)
 
 
 def drop_plates(folder: str) -> None:
