@@ -3,8 +3,10 @@
 import pytest
 
 from press.desk.job_edits import (EditedInk, EditedZone, Edits, apply_edits, number, pixels_of_polygon,
-                                  polygon_of_pixels, take_apart)
+                                  polygon_of_pixels, rules_of, take_apart)
+from press.desk.thin_zones import composed, picture_places
 from press.job_language import read_job
+from press.rects import Rect
 
 pytestmark = [pytest.mark.plain, pytest.mark.quick]
 
@@ -84,3 +86,73 @@ def test_corners_come_back_on_their_pixels():
 def test_numbers_are_spelled_as_a_job_has_them(value, text):
     """Ten-thousandths without needless digits."""
     assert number(value) == text
+
+
+MADE = PLAIN.replace(b"showpage", b"""% The page within its trim box (--trap-within):
+newpath
+10.000 10.000 moveto 280.000 0 rlineto 0 180.000 rlineto -280.000 0 rlineto
+settrapzone
+
+% Thin strokes (--no-thin-zones leaves them the page's width):
+<< /TrapWidth 0.1 >> settrapparams
+newpath
+20.000 20.000 moveto 8.000 0 rlineto 0 4.000 rlineto -8.000 0 rlineto
+settrapzone
+% Within images nothing is trapped, but at what is drawn above them (--trap-images traps there too):
+<< /TrapWidth 0.3 /Enabled false >> settrapparams
+newpath
+50.000 50.000 moveto 80.000 0 rlineto 0 40.000 rlineto -80.000 0 rlineto
+60.000 60.000 moveto 0 5.000 rlineto 5.000 0 rlineto 0 -5.000 rlineto
+settrapzone
+
+showpage""")
+PLACES = {0.1: [Rect(20, 20, 28, 24)]}
+SIZE = (300.0, 200.0)
+
+
+@pytest.mark.parametrize("off", [(), ("trim",), ("thin",), ("images",), ("trim", "thin", "images")])
+@pytest.mark.parametrize("zones", [(), (PANEL,), (PANEL, OVER)])
+@pytest.mark.parametrize("thin", [None, "% Thin strokes:\n"])
+def test_rules_that_are_off_come_out_as_they_went_in(off, zones, thin):
+    """What the press room wrote stays as a comment, and comes back byte for byte."""
+    edits = Edits({"TrapWidth": 5_000}, {}, zones, frozenset(off), None if "thin" in off else thin)
+    text = apply_edits(MADE, edits)
+    assert take_apart(text) == (MADE, edits)
+    assert rules_of(MADE, edits, False) == {one: one not in off for one in ("trim", "thin", "images")}
+
+
+def test_a_rule_that_is_off_has_no_zones():
+    """The page in place of its box; no zones of thin strokes; images are trapped; what follows is as it was."""
+    def found(*off):
+        zones = read_job(apply_edits(MADE, Edits({}, {}, (OVER,), frozenset(off)))).zones[1:]
+        return [(zone.subpaths[0][0][0] // 10_000, zone.parameters.trap_width, zone.parameters.enabled)
+                for zone in zones]
+    page, thin, images, over = (10, 3_000, True), (20, 1_000, True), (50, 3_000, False), (10, 3_000, False)
+    assert found() == [page, thin, images, over]
+    assert found("trim") == [(-1, 3_000, True), thin, images, over]
+    assert found("thin") == [page, images, over]
+    assert found("images") == [page, thin, over]
+
+
+def test_zones_of_thin_strokes_are_those_of_the_press_room():
+    """Composed anew without any edit they are the job's own."""
+    old = read_job(MADE).zones
+    text = apply_edits(MADE, Edits(thin=composed(MADE, Edits(), PLACES, SIZE)))
+    assert [(zone.subpaths, zone.parameters) for zone in read_job(text).zones] == [
+        (zone.subpaths, zone.parameters) for zone in old]
+
+
+def test_thin_strokes_are_never_wider_than_the_zone_below_and_off_where_that_is():
+    """A new zone of the owner, or a new width of the page, counts for them too."""
+    def widths(edits):
+        text = apply_edits(MADE, Edits(edits.settings, {}, edits.zones, thin=composed(MADE, edits, PLACES, SIZE)))
+        return [zone.parameters.trap_width for zone in read_job(text).zones[1:] if zone.parameters.enabled]
+    over_all = EditedZone("all", ((0, 0), (3_000_000, 0), (3_000_000, 2_000_000), (0, 2_000_000)), {"Enabled": False})
+    assert widths(Edits()) == [3_000, 1_000]
+    assert widths(Edits({"TrapWidth": 500})) == [500]
+    assert widths(Edits({}, {}, (over_all,))) == [3_000]
+
+
+def test_holes_of_images_are_known_by_their_direction():
+    """The places of images, without what is drawn above them."""
+    assert sum(one.area for one in picture_places(MADE)) == pytest.approx(80 * 40 - 25)

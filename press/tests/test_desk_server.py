@@ -33,7 +33,8 @@ if LIBRARY:
 from press.desk.guard import LOOPBACK, allowed_hosts  # noqa: E402
 from press.desk.page import DeskPage  # noqa: E402
 from press.desk.server import application  # noqa: E402
-from press.desk.store import Store, digest_of  # noqa: E402
+from press.desk.said import digest_of
+from press.desk.store import Store  # noqa: E402
 from press.desk.uploads import plain_name  # noqa: E402
 
 PORT = 8631
@@ -137,7 +138,8 @@ def test_a_page_is_described(client):
     page = client.get(f"/api/pages/{page_of(client)}").json()
     assert (page["width"], page["height"], page["dpi"]) == (WIDTH, HEIGHT, DPI)
     assert [ink["title"] for ink in page["inks"]] == ["Cyan", "Magenta", "Yellow", "Black"]
-    assert page["settings"]["TrapWidth"] == 20_000 and page["edits"] == {"settings": {}, "zones": [], "inks": {}}
+    assert page["settings"]["TrapWidth"] == 20_000 and page["edits"] == {
+        "settings": {}, "zones": [], "inks": {}, "off": []}
 
 
 @pytest.mark.parametrize("settings, zones", [
@@ -436,11 +438,21 @@ def test_the_trapped_plates_can_be_fetched(client, folder):
     """As a ZIP with the job and the report, byte for byte; nothing of it stays on the server."""
     key, page = page_of(client), folder / "made" / "page-001"
     before = set(Path(tempfile.gettempdir()).glob("press-desk-*"))
-    answer = client.get(f"/api/pages/{key}/download/plates.zip")
+    answer = fetched(client, key, "plates")
     packed = zipfile.ZipFile(io.BytesIO(answer.content))
     wanted = {**files_of(page), "page.job": (page / "page.job").read_bytes()}
     assert {name: packed.read(name) for name in packed.namelist()} == wanted
-    assert "made-1.zip" in answer.headers["content-disposition"]
+    assert "made-1-plates.zip" in answer.headers["content-disposition"]
     assert set(Path(tempfile.gettempdir()).glob("press-desk-*")) == before
-    assert client.get(f"/api/pages/{key}/download/report").content == (page / "trapped" / "report").read_bytes()
-    assert client.get(f"/api/pages/{key}/download/..%2Fpage.job").status_code == 404
+    assert fetched(client, key, "report").content == (page / "trapped" / "report").read_bytes()
+    assert client.post(f"/api/pages/{key}/outputs/..%2Fpage.job", json={}).status_code == 404
+    assert client.get("/api/outputs/..%2Fpage.job").status_code == 404
+
+
+def fetched(client, key, kind):
+    """A file of a page, made and fetched once; its key is good for no more."""
+    made = client.post(f"/api/pages/{key}/outputs/{kind}", json={})
+    assert made.status_code == 200, made.text
+    answer = client.get(f"/api/outputs/{made.json()['key']}")
+    assert client.get(f"/api/outputs/{made.json()['key']}").status_code == 404
+    return answer

@@ -174,9 +174,10 @@ class PageWork:
         with self.step("traps", "press-trap"):
             trapped = engine.trap(made, self.settings)
             self.warn("press-trap", trapped.warnings)
-        with self.step("TIFF files", "press-tiff"):
-            options = tiff.TiffOptions(channels=self.settings.channels, icc=self.settings.icc)
-            tiff.write_tiffs(made, made.file(TIFF), options)
+        if self.settings.tiff:
+            with self.step("TIFF files", "press-tiff"):
+                options = tiff.TiffOptions(channels=self.settings.channels, icc=self.settings.icc)
+                tiff.write_tiffs(made, made.file(TIFF), options)
         if self.settings.look:
             with self.step("pictures", "press-look"):
                 look.draw_pictures(made)

@@ -212,6 +212,7 @@ class Settings:
     check: int | None = None
     # Outputs.
     channels: bool = False
+    tiff: bool = True
     tiff_only: bool = False
     pdf: bool = False
     proof: bool = True
@@ -235,6 +236,8 @@ class Settings:
         settings = cls(**values, parameters=parameters(**words))
         if settings.pdf and settings.tiff_only:
             raise UsageError("--pdf and --tiff-only do not go together: a trapped PDF is made of plates")
+        if settings.tiff_only and not settings.tiff:
+            raise UsageError("--tiff-only and --no-tiff do not go together")
         if settings.icc:
             need_press_profile(settings.icc)
         if not given.get("tiff"):
@@ -391,6 +394,7 @@ def add_run_options(parser: argparse.ArgumentParser) -> None:
     add = parser.add_argument
     add("--tiff-only", action="store_true", default=None,
         help="keeps no plates of a finished page, but its TIFF files, job, report, table and preview")
+    add("--no-tiff", dest="tiff", action="store_false", default=None, help="writes no TIFF files")
     add("--pdf", action="store_true", default=None,
         help="writes a trapped PDF of all finished pages too, OUT/NAME-trapped.pdf, as press/pdf does")
     add("--no-proof", dest="proof", action="store_false", default=None, help="writes no preview")

@@ -8,15 +8,25 @@ from __future__ import annotations
 import struct
 import zlib
 from collections.abc import Sequence
+from typing import Any
 
 import numpy as np
 from numpy.typing import NDArray
+from PIL import Image, ImageCms
+
+from press.inks import Ink
+from press.names import PROCESS
+from press.picture import need_profile
 
 Tints = NDArray[np.uint8]
 Pixels = NDArray[np.uint32]
 Mask = NDArray[np.bool_]
 
 OPAQUE = np.uint32(0xFF000000)
+DIFFERENT = OPAQUE | np.uint32(0x5B00C2)
+"""What differs, or is too much: a red that no process ink has."""
+TOO_MUCH = 300
+"""The sum of tints in per cent above which the map of ink marks a place."""
 PALEST, PALE_RANGE = 205, 50
 """The gray of the page below its traps: from PALEST to white."""
 
@@ -34,8 +44,9 @@ def packed_light(light: tuple[int, int, int]) -> np.uint32:
 class Inks:
     """The colours of a page's inks: what light full ink lets through, as red, green and blue of 0 to 255."""
 
-    def __init__(self, lights: Sequence[tuple[int, int, int]], seen: Sequence[bool]) -> None:
-        self.lights, self.seen = list(lights), list(seen)
+    def __init__(self, lights: Sequence[tuple[int, int, int]], seen: Sequence[bool],
+                 soft: SoftProof | None = None) -> None:
+        self.lights, self.seen, self.soft = list(lights), list(seen), soft
         coverage = 1 - np.arange(256, dtype=np.float32) / 255
         self.shares = [[1 - coverage * (1 - channel / 255) for channel in light] for light in self.lights]
 
@@ -62,14 +73,24 @@ class Inks:
             pixels = np.repeat(pixels, np.diff(at, append=starts.size))
         return np.asarray(pixels.reshape(shape))
 
-    def paint_traps(self, before: Sequence[Tints], changed: Sequence[Mask | None], shown: int) -> Pixels:
-        """A pale page with each plate's changed pixels in its ink's colour."""
+    def picture(self, mode: str, planes: Sequence[Tints], shown: int, soft: bool) -> Pixels:
+        """The plates as inks over each other, by the press's profile if that is asked for and set; or how much ink
+        there is."""
+        planes = [plane if shown >> k & 1 and seen else np.full_like(plane, 255)
+                  for k, (plane, seen) in enumerate(zip(planes, self.seen))]
+        if mode == "ink":
+            return paint_total(planes)
+        return self.soft.paint(planes) if soft and self.soft else self.paint(planes, shown)
+
+    def paint_traps(self, before: Sequence[Tints], changed: Sequence[Mask | None], shown: int,
+                    alike: bool = False) -> Pixels:
+        """A pale page with each plate's changed pixels in its ink's colour, or with all of them `alike`."""
         light = self.paint(before, shown).view(np.uint8).reshape(*before[0].shape, 4)[..., :3]
         pale = (PALEST + light.mean(axis=-1, dtype=np.float32) * PALE_RANGE / 255).astype(np.uint32)
         out = packed(pale, pale, pale)
         for k, mask in enumerate(changed):
             if mask is not None and shown >> k & 1:
-                out[mask] = packed_light(self.lights[k])
+                out[mask] = DIFFERENT if alike else packed_light(self.lights[k])
         return out
 
     def changes(self, before: Sequence[Tints], after: Sequence[Tints], shown: int) -> NDArray[np.uint32]:
@@ -81,6 +102,51 @@ class Inks:
         at = np.flatnonzero(changed)
         colours = self.paint([plane.ravel()[at] for plane in after], shown)
         return np.concatenate([at.astype(np.uint32), colours])
+
+
+class SoftProof:
+    """Colours by the profile of a press: the process inks as it says, and each spot by the process inks that look like
+    it."""
+
+    def __init__(self, inks: Sequence[Ink], profile: str) -> None:
+        need_profile(profile)
+        self.transform = ImageCms.buildTransform(profile, ImageCms.createProfile("sRGB"), "CMYK", "RGB")
+        names = [ink.name for ink in inks]
+        self.process = [names.index(name) if name in names else None for name in PROCESS]
+        self.spots = [(k, self._light(np.array([[[round(part * 2.55) for part in ink.look]]], np.uint8))[0, 0])
+                      for k, ink in enumerate(inks) if not ink.is_process]
+
+    def _light(self, tints: Tints) -> NDArray[np.float32]:
+        """Red, green and blue of cyan, magenta, yellow and black, rows × columns × inks."""
+        image: Any = Image.fromarray(np.ascontiguousarray(tints), "CMYK")
+        return np.asarray(ImageCms.applyTransform(image, self.transform), np.float32)
+
+    def paint(self, planes: Sequence[Tints]) -> Pixels:
+        """The inks of the plates over each other; 0 is full ink."""
+        blank = np.full(planes[0].shape, 255, np.uint8)
+        tints = np.stack([255 - (blank if k is None else planes[k]) for k in self.process], axis=-1)
+        light = self._light(tints.reshape(1, -1, len(PROCESS))).reshape(*planes[0].shape, 3)
+        for k, spot in self.spots:
+            if planes[k].size and planes[k].min() < 255:
+                light = light * (1 - (1 - planes[k].astype(np.float32) / 255)[..., None] * (1 - spot / 255))
+        red, green, blue = np.moveaxis((light + np.float32(0.5)).astype(np.uint32), -1, 0)
+        return packed(red, green, blue)
+
+
+def soft_proof(inks: Sequence[Ink], profile: str | None) -> SoftProof | None:
+    """The colours of a profile, if one is set."""
+    return SoftProof(inks, profile) if profile else None
+
+
+def paint_total(planes: Sequence[Tints]) -> Pixels:
+    """The sum of tints: paper is white, 100 % pale, and what is above TOO_MUCH stands out."""
+    total = np.zeros(planes[0].shape, np.uint32)
+    for plane in planes:
+        total += np.uint32(255) - plane
+    gray = np.uint32(255) - np.minimum(total * np.uint32(200) // np.uint32(255 * 4), np.uint32(200))
+    out = packed(gray, gray, gray)
+    out[total > TOO_MUCH * 255 // 100] = DIFFERENT
+    return out
 
 
 def png(pixels: Pixels) -> bytes:

@@ -2,9 +2,10 @@
 """What the editor changes in a job: marked blocks of its own, and nothing else.
 
 `page.job` is the state. Parameters and inks of the page are in one block before the first path, zones in one
-block before the zones of images, and zones that go over images in one before `showpage`. All other bytes stay, so
-a job that was written by hand opens, and its comments survive. A block that somebody changed by hand is no block
-of the editor any more: it stays as it is.
+block before the press room's own zones of thin strokes, pairs and images, and zones that go over images in one before
+`showpage`. A rule of the press room that is off, and its zones that are replaced, stay as comments in a block. All
+other bytes stay, so a job that was written by hand opens, and its comments survive. A block that somebody changed by
+hand is no block of the editor any more: it stays as it is.
 """
 from __future__ import annotations
 
@@ -15,10 +16,13 @@ from dataclasses import dataclass, field, fields
 
 from press.job_language import KEYS, SCALE, Parameters, Point, Subpath, in_force, read_job, statements, ten_thousandths
 
-BEGIN, END = "% press desk: {}\n", "% press desk: end of {}\n"
+from .job_sections import IMAGES, OFF, THIN, TRIM, line_start, section_of, sections, set_aside, tail_start, taken_back
+
+BEGIN, ENDED = "% press desk: {}\n", "% press desk: end of {}\n"
 PAGE, BELOW, ABOVE = "the page", "zones", "zones over images"
-IMAGES = b"% Within images nothing is trapped"
+BLOCKS = {TRIM: "the whole page in place of its box", THIN: "thin strokes", IMAGES: "images are trapped"}
 WHOLE_PAGE = "newpath -1 -1 moveto 20000 0 rlineto 0 20000 rlineto -20000 0 rlineto settrapzone  % the whole page\n"
+RESTORE = "% What follows has the parameters that it had:\n"
 PATH_OPERATORS = ("newpath", "moveto", "settrapzone", "showpage")
 
 Settings = Mapping[str, int | bool]
@@ -45,46 +49,63 @@ class EditedZone:
 
 @dataclass(frozen=True)
 class Edits:
-    """All that the editor changes in one job."""
+    """All that the editor changes in one job. `off` has the rules that are switched off; `thin` has the zones of thin
+    strokes that replace the job's own, as statements, or None if those stay."""
 
     settings: Settings = field(default_factory=dict)
     inks: Mapping[str, EditedInk] = field(default_factory=dict)
     zones: Sequence[EditedZone] = ()
+    off: frozenset[str] = frozenset()
+    thin: str | None = None
 
 
 def apply_edits(original: bytes, edits: Edits) -> bytes:
     """The job with the editor's blocks."""
-    page = _page_block(edits)
-    text = _insert(original, _first_path(original), _block(PAGE, page))
-    below = [zone for zone in edits.zones if not zone.over_images]
+    text = below_thin(original, edits)
     above = [zone for zone in edits.zones if zone.over_images]
-    end = _showpage(text)
-    zones_there = read_job(text).zones
-    has_zones, base = len(zones_there) > 1, zones_there[min(1, len(zones_there) - 1)].parameters
-    images = text.find(b"\n" + IMAGES) + 1 or end
-    for name, zones, at in ((ABOVE, above, end), (BELOW, below, images)):
-        whole = WHOLE_PAGE if not has_zones and name == (BELOW if below else ABOVE) else ""
-        block = _zones_block(zones, base, in_force(text, at), whole)
-        text = _insert(text, at, _block(name, block))
-    return text
+    for kind, new in ((THIN, edits.thin), (IMAGES, None)):
+        if kind in edits.off or new is not None:
+            text = _replaced(text, kind, "" if kind in edits.off else new or "")
+    end = line_start(text, [one for one in statements(text) if one.operator == "showpage"][-1].start)
+    block = _zones_block(above, _base_of(text), in_force(text, end), "" if _has_zones(text) else WHOLE_PAGE)
+    return _insert(text, end, _block(ABOVE, block))
+
+
+def below_thin(original: bytes, edits: Edits) -> bytes:
+    """The job with all that lies below the zones of thin strokes."""
+    text = _insert(original, _first_path(original), _block(PAGE, _page_block(edits)))
+    if TRIM in edits.off:
+        text = _replaced(text, TRIM, WHOLE_PAGE)
+    below, at = [zone for zone in edits.zones if not zone.over_images], tail_start(text)
+    block = _zones_block(below, _base_of(text), in_force(text, at), "" if _has_zones(text) else WHOLE_PAGE)
+    return _insert(text, at, _block(BELOW, block))
 
 
 def take_apart(text: bytes) -> tuple[bytes, Edits]:
     """The job without the editor's blocks, and what they say."""
     original, found = text, {}
-    for name in (ABOVE, BELOW, PAGE):
-        pattern = re.escape(BEGIN.format(name)) + "(.*?)" + re.escape(END.format(name))
+    for name in (ABOVE, *(BLOCKS[kind] for kind in (IMAGES, THIN)), BELOW, BLOCKS[TRIM], PAGE):
+        pattern = re.escape(BEGIN.format(name)) + "(.*?)" + re.escape(ENDED.format(name))
         block = re.search(pattern.encode(), original, re.S)
         if block:
             found[name] = block[1].decode("utf-8", "replace")
-            original = original[:block.start()] + original[block.end():]
+            original = original[:block.start()] + taken_back(block[1]) + original[block.end():]
     settings, inks = _read_page(found.get(PAGE, ""))
     zones = [*_read_zones(found.get(BELOW, ""), False), *_read_zones(found.get(ABOVE, ""), True)]
-    edits = Edits(settings, inks, tuple(zones))
+    thin = _live_lines(found.get(BLOCKS[THIN]))
+    off = {kind for kind in (TRIM, IMAGES) if BLOCKS[kind] in found} | ({THIN} if thin == "" else set())
+    edits = Edits(settings, inks, tuple(zones), frozenset(off), thin or None)
     try:
         return (original, edits) if apply_edits(original, edits) == text else (text, Edits())
     except ValueError:
         return text, Edits()
+
+
+def rules_of(original: bytes, edits: Edits, has_thin: bool) -> dict[str, bool]:
+    """The rules of the press room that a job has, and whether each is on. `has_thin` says that thin strokes are known,
+    so that they can have zones though the job has none."""
+    there = {kind for kind in BLOCKS if section_of(original, kind)} | ({THIN} if has_thin else set())
+    return {kind: kind not in edits.off for kind in BLOCKS if kind in there}
 
 
 def polygon_of_pixels(points: Sequence[tuple[float, float]], resolution: int, height: int) -> Subpath:
@@ -105,19 +126,64 @@ def number(value: int) -> str:
     return f"{sign}{whole}.{part:04d}".rstrip("0").rstrip(".")
 
 
-def _dictionary(settings: Settings) -> str:
+def dictionary(settings: Settings) -> str:
+    """A statement that sets parameters."""
     known = [(key, settings[key]) for key in KEYS if key in settings]
     said = [f"/{key} {str(value).lower() if isinstance(value, bool) else number(value)}" for key, value in known]
     return f"<< {' '.join(said)} >> settrapparams\n"
 
 
-def _all_of(parameters: Parameters) -> Settings:
+def all_of(parameters: Parameters) -> Settings:
+    """All parameters as entries of a statement."""
     by_field = {name: key for key, name in KEYS.items()}
     return {by_field[one.name]: getattr(parameters, one.name) for one in fields(parameters)}
 
 
+def zone_statements(zone: EditedZone, base: Parameters) -> str:
+    """A zone of the editor: its name, the page's parameters, its own, and its path."""
+    points = [f"{number(x)} {number(y)}" for x, y in zone.polygon]
+    path = f"newpath {points[0]} moveto {' '.join(one + ' lineto' for one in points[1:])} closepath settrapzone\n"
+    own = dictionary(zone.settings) if zone.settings else ""
+    return f"% Zone {json.dumps(zone.name)}:\n{dictionary(all_of(base))}{own}{path}"
+
+
+def _base_of(text: bytes) -> Parameters:
+    zones = read_job(text).zones
+    return zones[min(1, len(zones) - 1)].parameters
+
+
+def _has_zones(text: bytes) -> bool:
+    return len(read_job(text).zones) > 1
+
+
+def _replaced(text: bytes, kind: str, new: str) -> bytes:
+    """The job with other statements in place of a part's, which stays as a comment. What follows finds the parameters
+    that it had after the part."""
+    found = section_of(text, kind)
+    start, end = (found.start, found.end) if found else (thin_place(text),) * 2
+    restore = RESTORE + dictionary(all_of(in_force(text, end)))
+    block = f"{BEGIN.format(BLOCKS[kind])}".encode() + set_aside(text[start:end])
+    if text[start:end] and not text[start:end].endswith(b"\n"):
+        raise ValueError("the part does not end with its line")
+    return text[:start] + block + (new + restore + ENDED.format(BLOCKS[kind])).encode() + text[end:]
+
+
+def thin_place(text: bytes) -> int:
+    """Where zones of thin strokes go: after the owner's zones, the editor's included."""
+    ended = ENDED.format(BELOW).encode()
+    return text.find(ended) + len(ended) if ended in text else tail_start(text)
+
+
+def _live_lines(block: str | None) -> str | None:
+    """What a block says in place of the part that it sets aside; None without a block."""
+    if block is None:
+        return None
+    lines = "".join(line for line in block.splitlines(keepends=True) if not line.startswith(OFF.decode()))
+    return lines.rpartition(RESTORE)[0]
+
+
 def _page_block(edits: Edits) -> str:
-    lines = _dictionary(edits.settings) if edits.settings else ""
+    lines = dictionary(edits.settings) if edits.settings else ""
     if edits.inks:
         inks = "\n".join(f"  /{name} << /NeutralDensity {number(ink.density)} /ColorantType /{ink.kind} >>"
                          for name, ink in edits.inks.items())
@@ -129,19 +195,11 @@ def _zones_block(zones: Sequence[EditedZone], base: Parameters, after: Parameter
     """Zones with the page's own parameters below theirs; then what follows finds the parameters that it had."""
     if not zones:
         return ""
-    restore = "% What follows has the parameters that it had:\n"
-    return whole + "".join(_zone(zone, base) for zone in zones) + restore + _dictionary(_all_of(after))
-
-
-def _zone(zone: EditedZone, base: Parameters) -> str:
-    points = [f"{number(x)} {number(y)}" for x, y in zone.polygon]
-    path = f"newpath {points[0]} moveto {' '.join(one + ' lineto' for one in points[1:])} closepath settrapzone\n"
-    own = _dictionary(zone.settings) if zone.settings else ""
-    return f"% Zone {json.dumps(zone.name)}:\n{_dictionary(_all_of(base))}{own}{path}"
+    return whole + "".join(zone_statements(zone, base) for zone in zones) + RESTORE + dictionary(all_of(after))
 
 
 def _block(name: str, lines: str) -> bytes:
-    return (BEGIN.format(name) + lines + END.format(name)).encode() if lines else b""
+    return (BEGIN.format(name) + lines + ENDED.format(name)).encode() if lines else b""
 
 
 def _insert(text: bytes, at: int, block: bytes) -> bytes:
@@ -149,18 +207,12 @@ def _insert(text: bytes, at: int, block: bytes) -> bytes:
 
 
 def _first_path(text: bytes) -> int:
-    """The start of the line of the first statement that draws a path or ends the job."""
-    return _line_start(text, next(one.start for one in statements(text) if one.operator in PATH_OPERATORS))
-
-
-def _showpage(text: bytes) -> int:
-    return _line_start(text, [one for one in statements(text) if one.operator == "showpage"][-1].start)
-
-
-def _line_start(text: bytes, at: int) -> int:
-    """The start of a statement's line, unless another statement is before it on that line."""
-    start = text.rfind(b"\n", 0, at) + 1
-    return at if text[start:at].strip() else start
+    """The start of the line of the first statement that draws a path or ends the job, or of the comment of the part
+    that it begins."""
+    at = line_start(text, next(one.start for one in statements(text) if one.operator in PATH_OPERATORS))
+    part = next(one for one in reversed(sections(text)) if one.start <= at)
+    between = text[part.start:at].partition(b"\n")[2]
+    return part.start if part.kind in (TRIM, "page") and not between.strip() else at
 
 
 SETTING = re.compile(r"/(\w+) (\S+)")

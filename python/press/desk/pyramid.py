@@ -67,9 +67,9 @@ def reduced_sides(height: int, width: int) -> list[tuple[int, int]]:
 
 
 def plates_key(paths: Sequence[str | os.PathLike[str]]) -> str:
-    """Changes if a plate's file does: size and time of each."""
+    """Changes if a plate's file does: number, size and time of each."""
     states = [os.stat(path) for path in paths]
-    return json.dumps([FORMAT, [[one.st_size, one.st_mtime_ns] for one in states]])
+    return json.dumps([FORMAT, [[one.st_ino, one.st_size, one.st_mtime_ns] for one in states]])
 
 
 class Pyramid:

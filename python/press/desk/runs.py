@@ -6,20 +6,29 @@ waits for a page.
 """
 from __future__ import annotations
 
+import contextlib
+import json
 import logging
+import os
 import subprocess
+import sys
 import threading
 import time
-from collections.abc import Callable
+from collections.abc import Callable, Iterator
+from pathlib import Path
 
-from press import engine
-from press.errors import PressError
+from press import engine, tools
+from press.errors import PressError, Status
 from press.settings import Settings
 
 from .page import DeskPage
+from .thin_zones import Strokes, by_width, rule_of
 
 LOG = logging.getLogger("press.desk")
 QUIET_SECONDS = 0.25
+STROKES_SECONDS, STROKES_MEMORY = 600, 12 << 30
+PROGRESS_SECONDS, LARGE = 1.0, 100_000_000
+"""A page of so many samples shows progress while it is trapped."""
 Notify = Callable[..., None]
 
 
@@ -78,21 +87,92 @@ class PageRun:
         return started
 
     def _run(self, asked: int) -> None:
-        page, start = self.page, time.monotonic()
-        with page.lock:
-            version, text = page.version, page.text
         try:
-            engine.trap(page.folder, Settings(), self._started(asked))
-            page.record_trapped(text)
-            seconds = time.monotonic() - start
-            if page.take_trapped(version):
-                self.notify(kind="shown", version=version, seconds=seconds, text=f"page trapped in {seconds:.1f} s")
+            while self._trap(asked):
+                pass
         except PressError as refused:
-            if asked == self.wanted and self.is_open:
+            if self._is_wanted(asked):
                 self.notify(kind="fault", text=str(refused))
         except OSError as failed:
-            LOG.warning("%s: %s", page.folder.path, failed)
+            LOG.warning("%s: %s", self.page.folder.path, failed)
             self.notify(kind="fault", text=f"{failed.filename or 'write'}: {failed.strerror}")
         finally:
             with self.wake:
                 self.child = None
+
+    def _is_wanted(self, asked: int) -> bool:
+        return self.is_open and asked == self.wanted
+
+    def _trap(self, asked: int) -> bool:
+        """Traps the page, shows it, and looks for thin strokes if the change moves them: True if it has to be trapped
+        once more."""
+        page, start = self.page, time.monotonic()
+        with page.lock:
+            version, text = page.version, page.text
+        with self._progress(asked):
+            engine.trap(page.folder, Settings(), self._started(asked))
+        page.kept.record_trapped(text)
+        seconds = time.monotonic() - start
+        if not page.take_trapped(version):
+            return False
+        if not page.is_preview():
+            self.notify(kind="shown", version=version, seconds=seconds, text=f"page trapped in {seconds:.1f} s")
+            return False
+        self.notify(kind="shown", version=version, seconds=seconds,
+                    text=f"page trapped in {seconds:.1f} s; thin strokes are measured anew")
+        moved = self._find_strokes(asked, version)
+        if moved:
+            self.notify(kind="moved", version=page.version)
+        elif self._is_wanted(asked):
+            self.notify(kind="shown", version=version, seconds=seconds, text="page done")
+        return moved
+
+    def _find_strokes(self, asked: int, version: int) -> bool:
+        """Finds the places of thin strokes for the newest job; whether they move a zone."""
+        page = self.page
+        rule = rule_of(page.job, page.edits)
+        words = [sys.executable, "-B", "-m", "press.desk.thin_zones", page.folder.path]
+        env = {**os.environ, "PYTHONPATH": os.path.join(tools.TOP, "python")}
+        with tools.running(words, memory=STROKES_MEMORY, env=env) as child:
+            self._started(asked)(child)
+            try:
+                printed, complained = child.communicate(timeout=STROKES_SECONDS)
+            except subprocess.TimeoutExpired as slow:
+                raise PressError(Status.PROGRAM, "looking for thin strokes takes too long") from slow
+        if not self._is_wanted(asked):
+            return False
+        if child.returncode != 0:
+            LOG.warning("%s: %s", page.folder.path, complained.decode("utf-8", "replace")[-2000:])
+            raise PressError(Status.PROGRAM, "thin strokes could not be looked for")
+        return page.take_strokes(version, Strokes(rule, by_width(json.loads(printed))))
+
+    @contextlib.contextmanager
+    def _progress(self, asked: int) -> Iterator[None]:
+        """Reports, while a large page is trapped, how much of its plates is written."""
+        page = self.page
+        total = page.width * page.height * len(page.inked)
+        if total < LARGE:
+            yield
+            return
+        ended = threading.Event()
+
+        def report() -> None:
+            while not ended.wait(PROGRESS_SECONDS) and self._is_wanted(asked):
+                share = min(0.99, written(page.folder.path) / total / page.live.kind().itemsize)
+                self.notify(kind="progress", share=share, text=f"the whole page: {share:.0%}")
+        thread = threading.Thread(target=report, daemon=True, name="progress")
+        thread.start()
+        try:
+            yield
+        finally:
+            ended.set()
+            thread.join()
+
+
+def written(folder: str) -> int:
+    """The bytes of the plates in the folders that are being made in a page's folder."""
+    made = 0
+    for path in Path(folder).glob(".press-*/*.pgm"):
+        with contextlib.suppress(OSError):
+            made += path.stat().st_size
+    return made

@@ -6,7 +6,7 @@ Ids are the only way to a job or a page: no name that a browser sends becomes pa
 from __future__ import annotations
 
 import json
-import os
+import shutil
 from collections.abc import AsyncIterator, Awaitable, Callable
 from contextlib import asynccontextmanager
 from pathlib import Path
@@ -25,9 +25,13 @@ from starlette.types import ASGIApp
 from press.errors import PressError
 
 from .guard import Guard
-from .page import MODES, BadRequest, DeskPage, VersionConflict, View
+from .edits_json import BadRequest
+from .page import DeskPage, VersionConflict
+from .page_views import MODES, View
+from .job_queue import TooMuch
+from .outputs import NoSuchOutput
 from .store import NoSuchThing, Store
-from .uploads import TooMuch
+from .uploads import SetOf
 
 STATIC = Path(__file__).parent / "static"
 LEAFLET = Path("/usr/share/javascript/leaflet")
@@ -47,7 +51,7 @@ def answers(handler: Handler) -> Handler:
     async def guarded(request: Request) -> Response:
         try:
             return await handler(request)
-        except NoSuchThing as missing:
+        except (NoSuchThing, NoSuchOutput) as missing:
             return fault(404, str(missing))
         except VersionConflict as conflict:
             return fault(409, str(conflict))
@@ -87,7 +91,8 @@ class Server:
 
     async def upload(self, request: Request) -> Response:
         """A file as the request's body becomes a job."""
-        upload = self.store.begin_upload(request.query_params.get("name", ""))
+        query = request.query_params
+        upload = self.store.begin_upload(query.get("name", ""), SetOf.of_query(query))
         try:
             async for part in request.stream():
                 upload.write(part)
@@ -96,8 +101,11 @@ class Server:
             upload.close()
 
     async def cancel(self, request: Request) -> Response:
-        """Stops a job that runs."""
-        await run_in_threadpool(self.store.cancel, request.path_params["job"])
+        """Stops a job that runs, or one page of it."""
+        page = (await json_body(request)).get("page")
+        if page is not None and not isinstance(page, int):
+            raise BadRequest("a page is a number")
+        await run_in_threadpool(self.store.cancel, request.path_params["job"], page)
         return JSONResponse({})
 
     # Pages
@@ -138,31 +146,25 @@ class Server:
         at = request.path_params
         if at["mode"] not in MODES or at["level"] > MOST_LEVEL:
             raise NoSuchThing("no such tile")
-        page = self.store.page(at["page"])
-        body = await run_in_threadpool(page.tile, at["mode"], at["inks"], at["level"], (at["x"], at["y"]))
+        views, soft = self.store.views(at["page"]), "soft" in request.query_params
+        body = await run_in_threadpool(views.tile, at["mode"], at["inks"], at["level"], (at["x"], at["y"]), soft)
         if body is None:
             raise NoSuchThing("no such tile")
         return Response(body, 200, {"cache-control": "private, max-age=31536000, immutable"}, "image/png")
 
     async def view(self, request: Request) -> Response:
         """A part of a page at 1:1, as the browser's canvas takes it."""
-        said = await json_body(request)
-        try:
-            left, top, width, height = (int(said[name]) for name in ("left", "top", "width", "height"))
-            shifts = [(int(x), int(y)) for x, y in said["shifts"]] if said.get("shifts") else None
-            view = View(left, top, width, height, str(said["mode"]), int(said["inks"]), shifts, bool(said.get("delta")))
-        except (KeyError, TypeError, ValueError) as bad:
-            raise BadRequest(f"this is no view: {bad}") from bad
-        page = self.store.page(request.path_params["page"])
-        pixels = await run_in_threadpool(page.view, view)
+        view = View.of_json(await json_body(request))
+        views = self.store.views(request.path_params["page"])
+        pixels = await run_in_threadpool(views.view, view)
         return Response(pixels.tobytes(), 200, {"cache-control": "no-store"}, "application/octet-stream")
 
     async def why(self, request: Request) -> Response:
         """Why a pixel is trapped, or is not."""
-        page, x, y = self.store.page(request.path_params["page"]), request.path_params["x"], request.path_params["y"]
-        if x >= page.width or y >= page.height:
+        views, x, y = self.store.views(request.path_params["page"]), request.path_params["x"], request.path_params["y"]
+        if x >= views.page.width or y >= views.page.height:
             raise NoSuchThing("no such pixel")
-        return JSONResponse(await run_in_threadpool(page.why, x, y))
+        return JSONResponse(await run_in_threadpool(views.why, x, y))
 
     async def approval(self, request: Request) -> Response:
         """Approves a page, or rejects it."""
@@ -178,10 +180,22 @@ class Server:
         await run_in_threadpool(self.store.add_note, key, said)
         return JSONResponse(await run_in_threadpool(self.store.page_state, key))
 
-    async def download(self, request: Request) -> Response:
-        """One of a page's files, or several as an archive."""
-        made = await run_in_threadpool(self.store.download, request.path_params["page"], request.path_params["kind"])
-        after = BackgroundTask(os.unlink, made.path) if made.is_temporary else None
+    async def apply_to_all(self, request: Request) -> Response:
+        """Applies a page's settings to the other pages of its job."""
+        said = await json_body(request)
+        await run_in_threadpool(self.store.apply_to_all, request.path_params["page"], said)
+        return JSONResponse({})
+
+    async def make_output(self, request: Request) -> Response:
+        """Makes a file of a page, to be fetched by its key."""
+        at, said = request.path_params, await json_body(request)
+        key, name = await run_in_threadpool(self.store.make_output, at["page"], at["kind"], said)
+        return JSONResponse({"key": key, "name": name})
+
+    async def output(self, request: Request) -> Response:
+        """A file that was made. It is removed once it was sent."""
+        made = self.store.take_output(request.path_params["key"])
+        after = BackgroundTask(shutil.rmtree, made.folder, ignore_errors=True)
         return FileResponse(made.path, filename=made.name, headers={"cache-control": "no-store"}, background=after)
 
     def routes(self) -> list[Route | WebSocketRoute | Mount]:
@@ -190,7 +204,6 @@ class Server:
         post = ["POST"]
         return [
             Route("/", index), Route("/api/jobs", answers(self.jobs)),
-            Route("/api/jobs", answers(self.upload), methods=post),
             Route("/api/jobs", answers(self.upload), methods=post),
             Route("/api/jobs/{job:str}/cancel", answers(self.cancel), methods=post),
             Route(page, answers(self.page)), Route(f"{page}/edits", answers(self.edits), methods=post),
@@ -201,7 +214,9 @@ class Server:
             Route(page + "/why/{x:int}/{y:int}", answers(self.why)),
             Route(f"{page}/approval", answers(self.approval), methods=post),
             Route(f"{page}/notes", answers(self.notes), methods=post),
-            Route(page + "/download/{kind}", answers(self.download)),
+            Route(f"{page}/all", answers(self.apply_to_all), methods=post),
+            Route(page + "/outputs/{kind}", answers(self.make_output), methods=post),
+            Route("/api/outputs/{key}", answers(self.output)),
             WebSocketRoute("/api/events", self.store.events.serve),
             Mount("/leaflet", StaticFiles(directory=LEAFLET)), Mount("/static", StaticFiles(directory=STATIC))]
 

@@ -1,0 +1,188 @@
+# SPDX-License-Identifier: Apache-2.0
+"""What browsers see of a page: tiles of any zoom, parts at 1:1 by the job as it is now or by another, and why a pixel
+is trapped."""
+from __future__ import annotations
+
+from collections.abc import Mapping, Sequence
+from dataclasses import dataclass, field
+from typing import Any
+
+import numpy as np
+from numpy.typing import NDArray
+
+from press.job_language import KEYS, Job
+from press.names import readable
+from press.picture import shifted
+
+from . import why
+from .colours import png
+from .edits_json import BadRequest
+from .page import DeskPage
+from .pyramid import FIRST_LEVEL, Part, Pyramid, eight_bits
+
+TILE = 512
+MOST_PIXELS = 4 << 20
+MOST_SHIFT = 256
+MODES = ("before", "after", "traps", "difference", "ink")
+
+
+@dataclass(frozen=True)
+class View:
+    """What a browser asks to see at 1:1: a part of the page in pixels, a picture's kind, plates as bits, and how far
+    each plate is out of register, in pixels. `other` says by which other job it is trapped, if not by the newest."""
+
+    left: int
+    top: int
+    width: int
+    height: int
+    mode: str = "after"
+    inks: int = 0xFFFF
+    shifts: Sequence[tuple[int, int]] | None = None
+    delta: bool = False
+    soft: bool = False
+    other: Mapping[str, Any] = field(default_factory=dict)
+
+    @classmethod
+    def of_json(cls, said: Mapping[str, Any]) -> View:
+        """A view as a browser asks for it. Raises BadRequest if it is none."""
+        try:
+            left, top, width, height = (int(said[name]) for name in ("left", "top", "width", "height"))
+            shifts = [(int(x), int(y)) for x, y in said["shifts"]] if said.get("shifts") else None
+            return cls(left, top, width, height, str(said["mode"]), int(said["inks"]), shifts,
+                       bool(said.get("delta")), bool(said.get("soft")), dict(said.get("other") or {}))
+        except (KeyError, TypeError, ValueError) as bad:
+            raise BadRequest(f"this is no view: {bad}") from bad
+
+
+class PageViews:
+    """The pictures of one page that is open."""
+
+    def __init__(self, page: DeskPage) -> None:
+        self.page = page
+        self._marks: tuple[int, Pyramid | None] = (0, None)
+
+    def tile(self, mode: str, inks: int, level: int, place: tuple[int, int], soft: bool = False) -> bytes | None:
+        """A tile of a level as PNG; None outside the page."""
+        page, part = self.page, Part(level, place[0] * TILE, place[1] * TILE, TILE, TILE)
+        before, after = page.before, page.after
+        planes = (after if mode in ("after", "ink") else before).part(part)
+        if not planes[0].size:
+            return None
+        if mode not in ("traps", "difference"):
+            return png(page.inks.picture(mode, planes, inks, soft))
+        if level < FIRST_LEVEL:
+            changed = [new != old for old, new in zip(planes, after.part(part))]
+        else:
+            changed = [np.asarray(mark > 0) for mark in self._changes().part(part)]
+        return png(page.inks.paint_traps(planes, changed, inks, mode == "difference"))
+
+    def _changes(self) -> Pyramid:
+        """Where traps changed each plate: reduced copies in which a pixel is marked if any of its pixels changed."""
+        page = self.page
+        with page.lock:
+            shown, before, after = page.shown, page.before, page.after
+            held, found = self._marks
+        if found is None or held != shown:
+            found = marks_of(before, after)
+            with page.lock:
+                self._marks = (shown, found)
+        return found
+
+    def view(self, view: View) -> NDArray[np.uint32]:
+        """A part at 1:1 by the job as it is now; with `delta` only the pixels that differ from the part before."""
+        page = self.page
+        self._check(view)
+        most = max((abs(part) for shift in view.shifts or [] for part in shift), default=0)
+        x0, y0 = max(0, view.left - most), max(0, view.top - most)
+        width = min(page.width, view.left + view.width + most) - x0
+        height = min(page.height, view.top + view.height + most) - y0
+        before = page.before.part(Part(0, x0, y0, width, height))
+        after = before if view.mode == "before" else self._trapped(view.other, (x0, y0, width, height))
+        if most and view.shifts:
+            frame = view.left - x0, view.top - y0, view.width, view.height
+            before = [shifted(plane, shift, frame) for plane, shift in zip(before, view.shifts)]
+            after = [shifted(plane, shift, frame) for plane, shift in zip(after, view.shifts)]
+        if view.delta:
+            return page.inks.changes(before, after, view.inks)
+        if view.mode in ("traps", "difference"):
+            changed = [new != old for old, new in zip(before, after)]
+            return page.inks.paint_traps(before, changed, view.inks, view.mode == "difference")
+        return page.inks.picture(view.mode, after, view.inks, view.soft)
+
+    def _trapped(self, other: Mapping[str, Any], part: tuple[int, int, int, int]) -> list[NDArray[np.uint8]]:
+        """A part of the trapped plates as eight bits: of the page if that is done, else trapped now."""
+        page = self.page
+        with page.lock:
+            is_done, after, text = page.version == page.shown, page.after, page.text
+        text = page.other_text(other) if other else text
+        if is_done and not other:
+            return after.part(Part(0, *part))
+        return [eight_bits(plane, page.maxval) for plane in page.live.trapped(text, *part)]
+
+    def _check(self, view: View) -> None:
+        page = self.page
+        if view.mode not in MODES:
+            raise BadRequest(f"no picture {view.mode}")
+        if view.left < 0 or view.top < 0 or view.width < 1 or view.height < 1:
+            raise BadRequest("the view has no pixel of the page")
+        if view.left + view.width > page.width or view.top + view.height > page.height:
+            raise BadRequest("the view goes beyond the page")
+        if view.width * view.height > MOST_PIXELS:
+            raise BadRequest(f"a view has at most {MOST_PIXELS} pixels")
+        if view.shifts and (len(view.shifts) != len(page.names)
+                            or any(abs(part) > MOST_SHIFT for shift in view.shifts for part in shift)):
+            raise BadRequest(f"a plate is out of register by at most {MOST_SHIFT} pixels")
+
+    def why(self, x: int, y: int) -> dict[str, Any]:
+        """Why a pixel is trapped, or is not."""
+        page = self.page
+        with page.lock:
+            job = page.job
+        radius = why.window_radius(job)
+        left, top = max(0, x - radius), max(0, y - radius)
+        right, bottom = min(page.width, x + radius + 1), min(page.height, y + radius + 1)
+        tints = page.live.tints(left, top, right - left, bottom - top)
+        names = [page.names[k] for k in page.inked]
+        window = why.Window(tints, page.maxval, names, job, why.Place(left, top, page.height))
+        answer = why.explain(window, (x - left, y - top))
+        said = answer_json(answer, (x, y), [readable(page.folder.inks[k].colorant) for k in page.inked])
+        return {**said, "zoneName": page.zone_name(answer.zone), "settings": settings_json(job, answer.zone)}
+
+
+def settings_json(job: Job, zone: int) -> dict[str, Any]:
+    """The parameters of a zone, in ten-thousandths."""
+    return {key: getattr(job.zones[zone].parameters, name) for key, name in KEYS.items()}
+
+
+def marks_of(before: Pyramid, after: Pyramid) -> Pyramid:
+    """For each reduced copy where some pixel of a square changed, as 255."""
+    levels: list[list[NDArray[np.uint8]]] = []
+    for level in before.levels:
+        height, width = level[0].shape
+        levels.append([np.zeros((height, width), np.uint8) for _ in level])
+    times = 1 << FIRST_LEVEL
+    for k, (old, new) in enumerate(zip(before.planes, after.planes)):
+        for row in range(0, before.height, 1024):
+            rows = slice(row, row + 1024)
+            marks = any_of(np.asarray(old[rows] != new[rows]), times)
+            levels[0][k][row // times:row // times + marks.shape[0]] = marks * np.uint8(255)
+        for smaller, larger in zip(levels[1:], levels):
+            smaller[k][:] = any_of(larger[k] > 0, 2) * np.uint8(255)
+    return Pyramid(before.planes, before.maxval, levels)
+
+
+def any_of(mask: NDArray[np.bool_], times: int) -> NDArray[np.bool_]:
+    """Whether any pixel of each square is marked."""
+    height, width = (-(-side // times) * times for side in mask.shape)
+    full = np.zeros((height, width), bool)
+    full[:mask.shape[0], :mask.shape[1]] = mask
+    return np.asarray(full.reshape(height // times, times, width // times, times).any(axis=(1, 3)))
+
+
+def answer_json(answer: why.Answer, pixel: tuple[int, int], titles: Sequence[str]) -> dict[str, Any]:
+    """An answer for a browser."""
+    edge = answer.edge
+    said = {"pixels": edge.pixels, "own": vars(edge.own), "across": vars(edge.across), "distance": edge.distance,
+            "reach": edge.reach, "isBlack": edge.is_black, "isCentred": edge.is_centred} if edge else None
+    return {"x": pixel[0], "y": pixel[1], "zone": answer.zone, "reason": answer.reason, "inks": list(titles),
+            "before": answer.before, "after": answer.after, "edge": said}
