@@ -27,11 +27,28 @@ export async function send(path, body, method = 'POST') {
 }
 
 /**
- * Uploads a file, which becomes a job.
+ * Uploads a file, which becomes a job, or part of one.
  * @param {File} file
+ * @param {Record<string, string>} [more]
  */
-export async function upload(file) {
-  return (await checked(await fetch(`/api/jobs?name=${encodeURIComponent(file.name)}`, { method: 'POST', body: file }))).json();
+export async function upload(file, more = {}) {
+  const query = new URLSearchParams({ name: file.name, ...more });
+  return (await checked(await fetch(`/api/jobs?${query}`, { method: 'POST', body: file }))).json();
+}
+
+/**
+ * Has a file of a page made, and saves it.
+ * @param {string} page
+ * @param {string} kind
+ * @param {Record<string, number>} options
+ */
+export async function save(page, kind, options) {
+  const { key, name } = await (await send(`/api/pages/${page}/outputs/${kind}`, options)).json();
+  const link = Object.assign(document.createElement('a'), { href: `/api/outputs/${key}`, download: name });
+  document.body.append(link);
+  link.click();
+  link.remove();
+  return name;
 }
 
 /**

@@ -1,6 +1,7 @@
 // SPDX-License-Identifier: Apache-2.0
 // The app: jobs and pages, the picture, edits with undo, and the keyboard.
-import { Conflict, get, listen, send } from './api.js';
+import { Conflict, get, listen, save, send } from './api.js';
+import { listCompared, showCompared } from './compare.js';
 import { Drawing, drawZones } from './drawing.js';
 import { showJobs } from './jobs.js';
 import { byId, showPanels, showWhy } from './panels.js';
@@ -52,16 +53,20 @@ export async function openPage(id) {
     byId('why').textContent = 'Click a pixel, or press Enter with the page in focus for the middle of the view.';
   }
   view.open(page);
-  if (!byId('other').hidden) other.open({ ...page });
   await view.show(app.mode, app.shownInks);
   showPage();
+  await compareAgain();
 }
 
 /** Everything around the picture. */
 function showPage() {
   const { page } = app;
   drawZones(zoneLayer, page, app.chosenZone, (corner, point) => edit((edits) => { edits.zones[app.chosenZone].points[corner] = point; }));
-  showPanels(app, { edit, choose, setInks, setShift, goTo, approve, addNote });
+  showPanels(app, { edit, choose, setInks, setShift, goTo, approve, addNote, save: saveOutput, applyToAll });
+  listCompared(app);
+  byId('softbox').hidden = !page.canSoftProof;
+  byId('preview').hidden = !page.preview && page.version === page.shown;
+  byId('preview').textContent = page.preview ? 'preview: thin strokes follow' : 'the page follows';
   const undo = /** @type {HTMLButtonElement} */ (byId('undo')), redo = /** @type {HTMLButtonElement} */ (byId('redo'));
   undo.disabled = !page.canUndo;
   redo.disabled = !page.canRedo;
@@ -78,7 +83,12 @@ function choose(zone) {
 function setInks(shown) {
   app.shownInks = shown;
   view.show(app.mode, shown);
-  if (!byId('other').hidden) other.show(other.mode, shown);
+  compareAgain();
+}
+
+/** Shows the second picture anew, if there is one. */
+async function compareAgain() {
+  if (!byId('other').hidden && app.page) await showCompared(app, view, other);
 }
 
 /**
@@ -91,6 +101,16 @@ function setShift(ink, axis, pixels) {
   view.shifts[ink][axis] = pixels;
   if (view.map.getZoom() < 0) view.map.setZoom(0);
   if (view.needsLive()) view.look(); else view.hideLive();
+  if (!byId('other').hidden && other.page.id === view.page.id) { other.shifts = view.shifts; if (other.needsLive()) other.look(); else other.hideLive(); }
+}
+
+function straighten() {
+  app.shifts = null;
+  if (!app.page) return;
+  view.shifts = app.page.inks.map(() => [0, 0]);
+  if (view.needsLive()) view.look(); else view.hideLive();
+  showPage();
+  compareAgain();
 }
 
 /** @param {number[]} place in pixels: x, y and perhaps width and height */
@@ -181,6 +201,20 @@ async function approve(body) {
   showPage();
 }
 
+/**
+ * @param {string} kind
+ * @param {Record<string, number>} options
+ */
+async function saveOutput(kind, options) {
+  say('The file is being made …');
+  try { say(`${await save(app.page.id, kind, options)} is ready.`); } catch (fault) { say(String(fault instanceof Error ? fault.message : fault), true); }
+}
+
+/** @param {boolean} zones */
+async function applyToAll(zones) {
+  try { await send(`/api/pages/${app.page.id}/all`, { zones }); } catch (fault) { say(String(fault instanceof Error ? fault.message : fault), true); }
+}
+
 /** @param {string} text */
 async function addNote(text) {
   const place = app.page.asked || (({ lng, lat }) => [Math.round(lng), Math.round(lat)])(view.map.getCenter());
@@ -199,20 +233,27 @@ async function heard(event) {
   }
   if (!app.page || (event.page && event.page !== app.page.id)) return;
   if (event.kind === 'fault') say(event.text, true);
-  if (event.kind === 'progress') say(event.text);
+  if (event.kind === 'progress' || event.kind === 'batch') say(event.text);
   if (event.kind === 'changed' && event.version !== app.page.version && !app.isSending) {
     await openPage(app.page.id);
     say(`Changed in another window: version ${event.version}`);
   }
-  if (event.kind === 'shown' || event.kind === 'reconnect') {
+  if (event.kind === 'shown' || event.kind === 'moved' || event.kind === 'said' || event.kind === 'reconnect') {
     const page = await get(`/api/pages/${app.page.id}`);
     const isNewest = page.version >= app.page.version;
     Object.assign(app.page, isNewest ? page : { shown: page.shown, epoch: page.epoch });
     await view.refresh();
     if (!view.needsLive()) view.hideLive();
-    if (isNewest) showPage();
+    if (isNewest && !isTyping()) showPage();
     if (event.text) say(event.text);
+    if (event.kind === 'shown') await compareAgain();
   }
+}
+
+/** Whether somebody types into a panel, which must not be drawn anew under the hands. */
+function isTyping() {
+  const { activeElement: at } = document;
+  return !!at?.closest('#panels') && (at.tagName === 'TEXTAREA' || (at instanceof HTMLInputElement && at.type === 'text'));
 }
 
 async function openFirst() {
@@ -225,7 +266,7 @@ async function openFirst() {
 function setMode(mode) {
   app.mode = mode;
   document.querySelectorAll('[data-mode]').forEach((one) => one.setAttribute('aria-pressed', String(/** @type {HTMLElement} */ (one).dataset.mode === mode)));
-  if (app.page) view.show(mode, app.shownInks);
+  if (app.page) { view.show(mode, app.shownInks); compareAgain(); }
 }
 
 const zooms = { fit: () => view.fit(), in: () => view.map.zoomIn(1), out: () => view.map.zoomOut(1), one: () => view.map.setZoom(0) };
@@ -233,32 +274,45 @@ const zooms = { fit: () => view.fit(), in: () => view.map.zoomIn(1), out: () => 
 function toggleCompare() {
   const element = byId('other'), isOn = element.hidden;
   element.hidden = !isOn;
+  byId('compared').hidden = !isOn;
+  byId('comparedhint').hidden = true;
   byId('compare').setAttribute('aria-pressed', String(isOn));
   view.map.invalidateSize();
-  if (!isOn || !app.page) return;
-  other.map.invalidateSize();
-  other.mode = 'before';
-  other.shownInks = app.shownInks;
-  other.open({ ...app.page });
-  other.map.setView(view.map.getCenter(), view.map.getZoom(), { animate: false });
+  compareAgain();
 }
 
+function toggleSoft() {
+  if (!app.page?.canSoftProof) return;
+  view.soft = !view.soft;
+  /** @type {HTMLInputElement} */ (byId('soft')).checked = view.soft;
+  view.show(app.mode, app.shownInks);
+  compareAgain();
+}
+
+let isFollowing = false;
 /**
- * Both pictures show the same place.
+ * Both pictures show the same place, whichever is moved.
  * @param {PageView} from
  * @param {PageView} to
  */
 function follow(from, to) {
   from.map.on('move', () => {
-    if (byId('other').hidden || !to.page || document.activeElement === to.element) return;
+    if (byId('other').hidden || !to.page || isFollowing) return;
+    isFollowing = true;
     to.map.setView(from.map.getCenter(), from.map.getZoom(), { animate: false });
+    isFollowing = false;
+    byId('comparedhint').hidden = !other.other || view.isNear();
   });
 }
 follow(view, other);
+follow(other, view);
 
 document.querySelectorAll('[data-mode]').forEach((one) => one.addEventListener('click', () => setMode(/** @type {HTMLElement} */ (one).dataset.mode || '')));
 document.querySelectorAll('[data-zoom]').forEach((one) => one.addEventListener('click', () => zooms[/** @type {keyof typeof zooms} */ (/** @type {HTMLElement} */ (one).dataset.zoom)]()));
 byId('compare').onclick = toggleCompare;
+byId('compared').onchange = () => compareAgain();
+byId('soft').onchange = toggleSoft;
+byId('straight').onclick = straighten;
 byId('undo').onclick = () => step('undo');
 byId('redo').onclick = () => step('redo');
 byId('rectangle').onclick = () => drawing.start('rectangle');
@@ -269,11 +323,19 @@ byId('help').onclick = () => showKeys();
 /** @type {[string, string, () => void][]} */
 const KEYS = [
   ['1', 'picture before trapping', () => setMode('before')], ['2', 'picture after trapping', () => setMode('after')],
-  ['3', "traps in their inks' colours", () => setMode('traps')], ['0', 'whole page', () => zooms.fit()], ['9', '1:1', () => zooms.one()],
-  ['c', 'compare side by side', toggleCompare], ['r', 'draw a rectangular zone', () => drawing.start('rectangle')],
+  ['3', "traps in their inks' colours", () => setMode('traps')], ['4', 'all that trapping changed', () => setMode('difference')],
+  ['5', 'the sum of all inks', () => setMode('ink')], ['s', 'soft proof, if a profile is set', toggleSoft], ['0', 'whole page', () => zooms.fit()], ['9', '1:1', () => zooms.one()],
+  ['c', 'compare side by side', toggleCompare], ['i', 'all plates in register', straighten],
+  ['n', 'next page', () => turn(1)], ['b', 'page before', () => turn(-1)], ['r', 'draw a rectangular zone', () => drawing.start('rectangle')],
   ['p', 'draw a polygonal zone', () => drawing.start('polygon')], ['u', 'undo', () => step('undo')], ['U', 'redo', () => step('redo')],
   ['?', 'these keys', () => showKeys()],
 ];
+
+/** @param {number} by */
+function turn(by) {
+  const pick = /** @type {HTMLSelectElement} */ (byId('page')), next = pick.options[pick.selectedIndex + by];
+  if (next) openPage(next.value);
+}
 
 function showKeys() {
   const dialog = /** @type {HTMLDialogElement} */ (byId('keys')), list = document.createElement('dl');

@@ -37,10 +37,12 @@ export function showPanels(app, on) {
   showPlates(app, on);
   showSettings(app.page, on);
   showInks(app.page, on);
+  showRules(app.page, on);
   showZones(app, on);
+  showJobZones(app.page, on);
   showFindings(app.page, on);
   showApproval(app.page, on);
-  showDownloads(app.page);
+  showDownloads(app.page, on);
   if (focused) byId(focused)?.focus();
 }
 
@@ -72,13 +74,15 @@ function showInks(page, on) {
  */
 function showPlates(app, on) {
   const { page } = app, perMillimetre = page.dpi / 25.4;
-  const head = element('tr', {}, ['Plate', 'Shift right', 'Shift down'].map((text) => element('th', { textContent: text, scope: 'col' })));
+  const head = element('tr', {}, ['Plate', 'Covers', 'Shift right', 'Shift down'].map((text) => element('th', { textContent: text, scope: 'col' })));
   const rows = page.inks.map((/** @type {any} */ ink, /** @type {number} */ k) => {
     const box = element('input', { type: 'checkbox', checked: !!(app.shownInks >> k & 1), id: `ink-${k}` });
     box.onchange = () => on.setInks(box.checked ? app.shownInks | 1 << k : app.shownInks & ~(1 << k));
     const chip = element('span', { className: 'chip' });
     chip.style.background = `rgb(${ink.light})`;
-    const label = element('label', { htmlFor: `ink-${k}`, title: `density ${ink.density}, ${ink.kind}${ink.coverage === undefined ? '' : `, coverage ${percent(ink.coverage)}`}` }, [chip, ink.title]);
+    const label = element('label', { htmlFor: `ink-${k}`, title: `density ${ink.density}, ${ink.kind}` }, [chip, ink.title]);
+    const covers = element('td', { className: 'number', textContent: `${(ink.coverage[1] * 100).toFixed(1)} %`,
+      title: `before trapping ${(ink.coverage[0] * 100).toFixed(2)} %, after ${(ink.coverage[1] * 100).toFixed(2)} %` });
     const shift = (/** @type {number} */ axis) => {
       const slider = element('input', { type: 'range', min: -0.4, max: 0.4, step: 0.02, id: `shift-${k}-${axis}`, value: 0 });
       slider.setAttribute('aria-label', `Misregistration of ${ink.title}, ${axis ? 'down' : 'across'}, in millimetres`);
@@ -91,7 +95,7 @@ function showPlates(app, on) {
       };
       return element('td', {}, [slider]);
     };
-    return element('tr', {}, [element('td', {}, [box, ' ', label]), shift(0), shift(1)]);
+    return element('tr', {}, [element('td', {}, [box, ' ', label]), covers, shift(0), shift(1)]);
   });
   byId('inks').replaceChildren(head, ...rows);
 }
@@ -124,6 +128,51 @@ function showSettings(page, on) {
   pick.onchange = () => on.edit((/** @type {any} */ edits) => Object.assign(edits.settings, page.presets.find((/** @type {any} */ one) => one.name === pick.value)?.settings));
   byId('settings').replaceChildren(pick, ...SETTINGS.map((setting) => control(`set-${setting[0]}`, setting, page.settings[setting[0]],
     (value) => on.edit((/** @type {any} */ edits) => { edits.settings[setting[0]] = value; }))));
+}
+
+const RULES = /** @type {[string, string][]} */ ([['thin', 'Narrower traps at small type and thin lines'], ['images', 'No traps within images'],
+  ['trim', "Traps within the page's box alone"]]);
+
+/**
+ * The press room's own rules, as far as the page has them; and applying all settings to the job's other pages.
+ * @param {any} page
+ * @param {any} on
+ */
+function showRules(page, on) {
+  byId('rules').replaceChildren(...RULES.filter(([rule]) => rule in page.rules).map(([rule, text]) => {
+    const box = element('input', { type: 'checkbox', id: `rule-${rule}`, checked: page.rules[rule] });
+    box.onchange = () => on.edit((/** @type {any} */ edits) => {
+      edits.off = edits.off.filter((/** @type {string} */ one) => one !== rule).concat(box.checked ? [] : [rule]).sort();
+    });
+    return element('label', { htmlFor: box.id, className: 'rule' }, [box, ` ${text}`]);
+  }));
+  if (!page.siblings) { byId('batch').replaceChildren(); return; }
+  const all = element('button', { type: 'button', id: 'applyall', textContent: `Apply to ${page.siblings === 1 ? 'the other page' : `the ${page.siblings} other pages`}` });
+  const zones = element('input', { type: 'checkbox', id: 'applyzones' });
+  all.onclick = () => on.applyToAll(zones.checked);
+  byId('batch').replaceChildren(element('div', { className: 'row' }, [all, element('label', { htmlFor: zones.id }, [zones, ' zones too'])]));
+}
+
+/** @param {any} settings */
+function settingsText(settings) {
+  if (!settings.Enabled) return 'not trapped';
+  return SETTINGS.map(([key, label, , , , unit]) => `${label.toLowerCase()} ${settings[key] / SCALE}${unit ? ` ${unit}` : ''}`).join(', ');
+}
+
+/**
+ * All zones of the job with their parameters, each with a link to its place.
+ * @param {any} page
+ * @param {any} on
+ */
+function showJobZones(page, on) {
+  byId('jobzones').replaceChildren(...page.jobZones.map((/** @type {any} */ zone, /** @type {number} */ k) => {
+    const points = zone.rings.flat();
+    const side = (/** @type {number} */ axis, /** @type {number} */ most) => points.map((/** @type {number[]} */ one) => Math.max(0, Math.min(most, one[axis])));
+    const across = side(0, page.width), down = side(1, page.height), left = Math.min(...across), top = Math.min(...down);
+    const go = element('button', { type: 'button', textContent: `${k + 1}: ${zone.name}`, id: `jobzone-${k}` });
+    go.onclick = () => on.goTo([left, top, Math.max(...across) - left, Math.max(...down) - top]);
+    return element('li', {}, [go, element('div', { className: 'dim', textContent: settingsText(zone.settings) })]);
+  }));
 }
 
 /**
@@ -177,17 +226,21 @@ function corners(page, zone, k, change) {
 }
 
 /**
+ * What preflight found, the gravest first, with links to its places.
  * @param {any} page
  * @param {any} on
  */
 function showFindings(page, on) {
-  const findings = page.findings || [];
-  byId('findings').replaceChildren(...(findings.length ? findings.map((/** @type {any} */ finding) => {
-    const text = `${finding.level}: ${finding.text}`;
-    if (!finding.place) return element('li', { textContent: text });
-    const button = element('button', { type: 'button', textContent: text });
-    button.onclick = () => on.goTo(finding.place);
-    return element('li', {}, [button]);
+  const { findings } = page;
+  byId('findings').replaceChildren(...(findings.length ? findings.map((/** @type {any} */ finding, /** @type {number} */ k) => {
+    const links = finding.places.map((/** @type {number[]} */ place, /** @type {number} */ number) => {
+      const text = finding.places.length > 1 ? String(number + 1) : 'show';
+      const go = element('button', { type: 'button', className: 'place', id: `finding-${k}-${number}`, textContent: text });
+      go.setAttribute('aria-label', `Show place ${number + 1} of ${finding.places.length}: ${finding.text}`);
+      go.onclick = () => on.goTo(place);
+      return go;
+    });
+    return element('li', { className: `finding level-${finding.level}` }, [element('strong', { textContent: finding.level }), ` ${finding.text} `, ...links]);
   }) : [element('li', { className: 'dim', textContent: 'Preflight found nothing to report.' })]));
 }
 
@@ -216,10 +269,21 @@ function showApproval(page, on) {
     element('label', { htmlFor: 'note', textContent: 'Note on the pixel that was clicked last' }), note, add, element('ul', {}, list));
 }
 
-/** @param {any} page */
-function showDownloads(page) {
-  byId('downloads').replaceChildren(...(page.downloads || []).map((/** @type {any} */ one) => element('li', {},
-    [element('a', { href: `/api/pages/${page.id}/download/${one.kind}`, textContent: one.title, download: '' })])));
+/**
+ * @param {any} page
+ * @param {any} on
+ */
+function showDownloads(page, on) {
+  const dpi = element('input', { type: 'number', id: 'screendpi', min: page.dpi, max: 20000, value: String(Math.max(2400, page.dpi)) });
+  const lpi = element('input', { type: 'number', id: 'screenlpi', min: 10, max: 400, value: '150' });
+  const list = page.downloads.map((/** @type {any} */ one) => {
+    const button = element('button', { type: 'button', id: `save-${one.kind}`, textContent: one.title }), isScreened = one.kind === 'screened';
+    button.onclick = () => on.save(one.kind, isScreened ? { dpi: Math.round(Number(dpi.value)), lpi: Math.round(Number(lpi.value)) } : {});
+    const more = isScreened ? [element('div', { className: 'row' }, [dpi, element('label', { htmlFor: dpi.id, textContent: 'dpi,' }), lpi,
+      element('label', { htmlFor: lpi.id, textContent: 'lines per inch' })])] : [];
+    return element('li', {}, [button, ...more]);
+  });
+  byId('downloads').replaceChildren(...list);
 }
 
 /**
@@ -233,7 +297,7 @@ export function showWhy(page, answer) {
     [element('td', { textContent: title }), element('td', { className: 'number', textContent: tint(answer.before[k]) }),
       element('td', { className: 'number', textContent: tint(answer.after[k]) })]) : null)).filter(Boolean);
   const side = (/** @type {any} */ colour) => `${answer.inks.map((/** @type {string} */ title, /** @type {number} */ k) => (colour.tints[k] ? `${title} ${tint(colour.tints[k])}` : '')).filter(Boolean).join(', ') || 'paper'}; neutral density ${colour.density.toFixed(2)}`;
-  const lines = [`Pixel ${answer.x}, ${answer.y}, zone ${answer.zone}: ${answer.reason}.`];
+  const lines = [`Pixel ${answer.x}, ${answer.y}, zone ${answer.zone} (${answer.zoneName}): ${answer.reason}.`, `There: ${settingsText(answer.settings)}.`];
   if (answer.edge) {
     lines.push(`This side: ${side(answer.edge.own)}.`, `Across the edge: ${side(answer.edge.across)}.`,
       `The edge is ${answer.edge.distance.toFixed(1)} pixels away; the trap reaches ${answer.edge.reach.toFixed(1)}${answer.edge.isBlack ? ', width at black' : ''}${answer.edge.isCentred ? ', centred' : ''}.`);

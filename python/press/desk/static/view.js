@@ -24,6 +24,8 @@ export class PageView {
     /** @type {any} */ this.page = null;
     this.mode = 'after';
     this.shownInks = 0xffff;
+    this.soft = false;
+    /** @type {any} */ this.other = null;
     /** @type {number[][]} */ this.shifts = [];
     /** @type {any} */ this.edits = null;
     this.busy = false;
@@ -31,7 +33,7 @@ export class PageView {
     /** @type {{key: string, pixels: Uint32Array}} */ this.base = { key: '', pixels: new Uint32Array(0) };
     /** @type {{total: number, bytes: number}[]} */ this.times = [];
     /** @type {any} */ this.live = null;
-    this.map = L.map(element, { crs: CRS, minZoom: -8, maxZoom: CLOSEST, fadeAnimation: false, zoomAnimation: false, attributionControl: false,
+    this.map = L.map(element, { crs: CRS, minZoom: -8, maxZoom: CLOSEST, zoomSnap: 0.25, fadeAnimation: false, zoomAnimation: false, attributionControl: false,
       zoomControl: false, keyboardPanDelta: 120 });
     this.map.createPane('live').style.zIndex = '300';
     this.marks = L.layerGroup().addTo(this.map);
@@ -69,7 +71,7 @@ export class PageView {
    */
   address(at) {
     const version = this.mode === 'before' ? 0 : this.page.shown;
-    return `/api/pages/${this.page.id}/tiles/${this.mode}/${this.page.epoch}-${version}/${this.shownInks}/${Math.max(0, -at.z)}/${at.x}/${at.y}`;
+    return `/api/pages/${this.page.id}/tiles/${this.mode}/${this.page.epoch}-${version}/${this.shownInks}/${Math.max(0, -at.z)}/${at.x}/${at.y}${this.soft ? '?soft' : ''}`;
   }
 
   /**
@@ -108,7 +110,9 @@ export class PageView {
 
   isShifted() { return this.shifts.some(([x, y]) => x || y); }
   isNear() { return this.map.getZoom() >= 0; }
-  needsLive() { return this.isNear() && (this.isShifted() || (this.mode !== 'before' && this.page.version !== this.page.shown)); }
+  needsLive() {
+    return this.isNear() && (this.isShifted() || (this.mode !== 'before' && (!!this.other || this.page.version !== this.page.shown)));
+  }
 
   /** The visible part in pixels of the page. */
   visible() {
@@ -158,9 +162,10 @@ export class PageView {
     const start = this.changedAt || performance.now(), part = this.visible();
     this.changedAt = 0;
     if (!part.width || !part.height) return;
-    const isDelta = this.mode === 'after' && !this.isShifted();
+    const isDelta = this.mode === 'after' && !this.isShifted() && !this.soft;
     if (isDelta) await this.fetchBase();
-    const body = { ...part, mode: this.mode, inks: this.shownInks, delta: isDelta, shifts: this.isShifted() ? this.shifts : null };
+    const body = { ...part, mode: this.mode, inks: this.shownInks, delta: isDelta, soft: this.soft, other: this.other || {},
+      shifts: this.isShifted() ? this.shifts : null };
     const answer = await send(`/api/pages/${this.page.id}/view`, body), data = await answer.arrayBuffer();
     const pixels = isDelta ? this.over(this.base.pixels, new Uint32Array(data)) : new Uint32Array(data);
     const canvas = document.createElement('canvas');
