@@ -2,6 +2,7 @@
 """The trap editor's server without a browser: pages, changes, conflicts, and whoever may not ask."""
 import asyncio
 import io
+import json
 import os
 import shutil
 import socket
@@ -21,6 +22,7 @@ from press import engine, tools  # noqa: E402
 from press.folder import PageFolder, PageSource, write_table  # noqa: E402
 from press.inks import Ink  # noqa: E402
 from press.job import write_job  # noqa: E402
+from press.job_language import read_job  # noqa: E402
 from press.plates import write_pgm  # noqa: E402
 from press.settings import Settings  # noqa: E402
 
@@ -35,7 +37,7 @@ from press.desk.page import DeskPage  # noqa: E402
 from press.desk.server import application  # noqa: E402
 from press.desk.said import digest_of
 from press.desk.store import Store  # noqa: E402
-from press.desk.uploads import plain_name  # noqa: E402
+from press.desk.uploads import colorants_of, plain_name  # noqa: E402
 
 PORT = 8631
 BASE = f"http://127.0.0.1:{PORT}"
@@ -43,19 +45,21 @@ WIDTH, HEIGHT, DPI = 160, 120, 72
 SECONDS = 60
 
 
-def make_page(folder: Path, maxval: int = 255) -> Path:
-    """A trapped page: a cyan disc on magenta, black type-like bars, and an empty yellow plate."""
+def make_page(folder: Path, maxval: int = 255, number: int = 1, has_lines: bool = False) -> Path:
+    """A trapped page: a cyan disc on magenta, black type-like bars, and an empty yellow plate; and thin cyan lines."""
     folder.mkdir(parents=True)
     rows, columns = np.mgrid[:HEIGHT, :WIDTH]
     disc = (rows - 60) ** 2 + (columns - 60) ** 2 < 40 ** 2
     bars = (columns > 110) & (columns // 4 % 2 == 0)
+    if has_lines:
+        disc |= (columns < 108) & (rows > 104) & (rows < 110)
     marks = {"Cyan": disc, "Magenta": ~disc, "Yellow": np.zeros_like(disc), "Black": bars}
     inks = tuple(Ink(name, name.encode(), name.encode(), density, has_ink=bool(marks[name].any()))
                  for name, density in (("Cyan", "0.61"), ("Magenta", "0.76"), ("Yellow", "0.16"), ("Black", "1.70")))
     for name, mark in marks.items():
         tints = np.where(mark, 0, maxval).astype("u1" if maxval < 256 else ">u2")
         write_pgm(str(folder / f"{name}.pgm"), tints, maxval)
-    source = PageSource(b"made.pdf", 1, DPI)
+    source = PageSource(b"made.pdf", number, DPI)
     (folder / "page.job").write_bytes(write_job(source, inks, []).text.replace(
         b"showpage", b"<< /TrapWidth 2 >> settrapparams\nshowpage"))
     write_table(str(folder), source, inks)
@@ -101,7 +105,7 @@ def wait_until_shown(client, key):
     end = time.monotonic() + SECONDS
     while time.monotonic() < end:
         page = client.get(f"/api/pages/{key}").json()
-        if page["version"] == page["shown"]:
+        if page["version"] == page["shown"] and not page["preview"]:
             return page
         time.sleep(0.05)
     raise AssertionError("the page was not trapped")
@@ -456,3 +460,246 @@ def fetched(client, key, kind):
     answer = client.get(f"/api/outputs/{made.json()['key']}")
     assert client.get(f"/api/outputs/{made.json()['key']}").status_code == 404
     return answer
+
+
+# Rules, thin strokes, versions
+
+def make_ruled_page(folder: Path) -> Path:
+    """The page of make_page as press/plates would lay it out: kept within a box, with thin strokes and an image."""
+    make_page(folder, has_lines=True)
+    job = (folder / "page.job").read_bytes()
+    (folder / "page.job").write_bytes(job.replace(b"showpage", b"""% The page within its trim box (--trap-within):
+newpath
+4.000 4.000 moveto 150.000 0 rlineto 0 110.000 rlineto -150.000 0 rlineto
+settrapzone
+% Within images nothing is trapped, but at what is drawn above them (--trap-images traps there too):
+<< /Enabled false >> settrapparams
+newpath
+10.000 60.000 moveto 50.000 0 rlineto 0 50.000 rlineto -50.000 0 rlineto
+settrapzone
+showpage"""))
+    (folder / "zones.json").write_text(json.dumps({"thin": {"places": []}}))
+    engine.trap(PageFolder.read(str(folder)), Settings())
+    return folder
+
+
+@pytest.fixture(name="ruled")
+def fixture_ruled(tmp_path):
+    """A browser of a page with rules."""
+    make_ruled_page(tmp_path / "jobs" / "made" / "page-001")
+    with open_client(tmp_path / "jobs") as client:
+        yield client, tmp_path / "jobs" / "made" / "page-001"
+
+
+def edit(client, key, **edits):
+    """Edits of the newest version."""
+    version = client.get(f"/api/pages/{key}").json()["version"]
+    said = {"settings": {}, "zones": [], "inks": {}, "off": [], **edits}
+    return client.post(f"/api/pages/{key}/edits", json={"version": version, "edits": said})
+
+
+def test_rules_are_switched_off_and_on(ruled, tmp_path):
+    """Images are trapped then, and the page beyond its box; back on, the job is the first one byte for byte."""
+    client, page = ruled
+    key, first, plates = page_of(client), (page / "page.job").read_bytes(), files_of(page)
+    assert client.get(f"/api/pages/{key}").json()["rules"] == {"trim": True, "thin": True, "images": True}
+    for off in (["images"], ["trim"], ["images", "trim"]):
+        assert edit(client, key, off=off).json()["edits"]["off"] == off
+        wait_until_shown(client, key)
+        assert files_of(page) == trapped_by_command(page, tmp_path / "-".join(off)) != plates
+    edit(client, key)
+    wait_until_shown(client, key)
+    assert (page / "page.job").read_bytes() == first and files_of(page) == plates
+    assert edit(client, key, off=["colour"]).status_code == 400
+
+
+def test_thin_strokes_are_found_anew_when_the_width_changes(ruled, tmp_path):
+    """The page is a preview until that is done; its traps are then narrower at the bars, unless the rule is off."""
+    client, page = ruled
+    key = page_of(client)
+    found = edit(client, key, settings={"TrapWidth": 60_000}).json()
+    assert found["preview"]
+    shown = wait_until_shown(client, key)
+    assert shown["version"] == 3 and [zone["name"] for zone in shown["jobZones"]].count("small type and thin lines") > 0
+    assert files_of(page) == trapped_by_command(page, tmp_path / "thin")
+    # A change on the version before is no conflict: nobody changed the settings in between.
+    said = {"settings": {"TrapWidth": 60_000}, "zones": [], "inks": {}, "off": ["thin"]}
+    assert client.post(f"/api/pages/{key}/edits", json={"version": 2, "edits": said}).status_code == 200
+    shown = wait_until_shown(client, key)
+    assert [zone["name"] for zone in shown["jobZones"]] == ["the page within its box", "images"]
+
+
+def test_a_restart_finds_thin_strokes_that_an_ended_server_did_not(ruled):
+    """A preview is taken up."""
+    client, page = ruled
+    key = page_of(client)
+    edit(client, key, settings={"TrapWidth": 60_000})
+    with open_client(page.parent.parent) as again:
+        assert not wait_until_shown(again, key)["preview"]
+
+
+def test_a_view_by_another_version_or_other_settings(client, folder):
+    """That of the first version is its plates, and that of other settings the plates that these make."""
+    key, page = page_of(client), folder / "made" / "page-001"
+    whole = {"left": 0, "top": 0, "width": WIDTH, "height": HEIGHT}
+    first = view(client, key, **whole)
+    edit(client, key, settings={"TrapWidth": 60_000})
+    wait_until_shown(client, key)
+    wide = view(client, key, **whole)
+    assert not np.array_equal(first, wide)
+    assert np.array_equal(view(client, key, other={"version": 1}, **whole), first)
+    assert np.array_equal(view(client, key, other={"settings": {"TrapWidth": 20_000}}, **whole), first)
+    for bad in ({"version": 9}, {"settings": {"Colour": 1}}):
+        asked = {**whole, "mode": "after", "inks": 15, "other": bad}
+        assert client.post(f"/api/pages/{key}/view", json=asked).status_code == 400
+    assert page.exists()
+
+
+def test_settings_are_applied_to_the_other_pages(tmp_path):
+    """Each keeps its own zones; all are trapped as the command does it."""
+    folder = tmp_path / "jobs" / "made"
+    for number in (1, 2, 3):
+        make_page(folder / f"page-{number:03d}", number=number)
+    with open_client(tmp_path / "jobs") as client:
+        (job,) = client.get("/api/jobs").json()
+        keys = [page["id"] for page in job["pages"]]
+        edit(client, keys[1], zones=[zone(TrapWidth=10_000)])
+        edit(client, keys[0], settings={"TrapWidth": 40_000})
+        assert client.post(f"/api/pages/{keys[0]}/all", json={}).status_code == 200
+        end = time.monotonic() + SECONDS
+        while client.get(f"/api/pages/{keys[2]}").json()["settings"]["TrapWidth"] != 40_000 and time.monotonic() < end:
+            time.sleep(0.05)
+        pages = [wait_until_shown(client, key) for key in keys]
+    assert [page["settings"]["TrapWidth"] for page in pages] == [40_000] * 3
+    assert [len(page["edits"]["zones"]) for page in pages] == [0, 1, 0]
+    assert files_of(folder / "page-002") == trapped_by_command(folder / "page-002", tmp_path / "again")
+
+
+# What is found, and what is fetched
+
+def test_findings_come_with_their_places(client, folder):
+    """The gravest first; a place in millimetres from the lower left corner as a box of pixels."""
+    page = folder / "made" / "page-001"
+    (page / "warnings.txt").write_text("note: images: an image over 3% of the page\n"
+                                       "warning: total-ink: 320% at 20, 10 mm\nodd line\n")
+    found = client.get(f"/api/pages/{page_of(client)}").json()["findings"]
+    assert [one["level"] for one in found] == ["warning", "note"] and found[1]["places"] == []
+    (left, top, width, height), = found[0]["places"]
+    assert abs(left + width / 2 - 20 * DPI / 25.4) < 2 and abs(HEIGHT - top - height / 2 - 10 * DPI / 25.4) < 2
+
+
+def test_outputs_are_those_of_the_commands(client, folder, tmp_path):
+    """TIFF files, screened plates, the proof; a trapped PDF only if its PDF is there."""
+    key, page = page_of(client), folder / "made" / "page-001"
+    subprocess.run([str(Path(tools.PRESS) / "tiff"), str(page), str(tmp_path / "tiff")], check=True)
+    packed = zipfile.ZipFile(io.BytesIO(fetched(client, key, "tiff").content))
+    assert {name: packed.read(name) for name in packed.namelist()} == {
+        path.name: path.read_bytes() for path in (tmp_path / "tiff").iterdir()}
+    assert b"<html" in fetched(client, key, "proof").content
+    kinds = {one["kind"] for one in client.get(f"/api/pages/{key}").json()["downloads"]}
+    assert "pdf" not in kinds and {"tiff", "screened", "plates", "report", "report.json", "tables"} <= kinds
+    assert client.post(f"/api/pages/{key}/outputs/pdf", json={}).status_code == 422
+    assert client.post(f"/api/pages/{key}/outputs/odd", json={}).status_code == 404
+
+
+def test_a_page_that_is_not_done_is_not_fetched(client):
+    """Its plates would not be those of its job."""
+    key = page_of(client)
+    edit(client, key, settings={"TrapWidth": 60_000})
+    answer = client.post(f"/api/pages/{key}/outputs/plates", json={})
+    assert answer.status_code == 422 and "being trapped" in answer.json()["error"]
+
+
+# Files that browsers send
+
+def wait_for_job(client, key, states=("done", "failed", "cancelled")):
+    """A job in one of some states."""
+    end, job = time.monotonic() + 3 * SECONDS, {"state": ""}
+    while job["state"] not in states and time.monotonic() < end:
+        job = next(one for one in client.get("/api/jobs").json() if one["id"] == key)
+        time.sleep(0.05)
+    return job
+
+
+def test_separations_become_one_page(client, folder, tmp_path):
+    """Several TIFF files of one set, in any order; the plates are those of the files."""
+    page = folder / "made" / "page-001"
+    subprocess.run([str(Path(tools.PRESS) / "tiff"), "-u", str(page), str(tmp_path / "tiff")], check=True)
+    keys = []
+    for name in ("Black", "Cyan", "Magenta", "Yellow"):
+        path = tmp_path / "tiff" / f"made-1({name}).tif"
+        answer = client.post("/api/jobs", params={"name": path.name, "set": "0123456789abcdef", "of": 4},
+                             content=path.read_bytes())
+        assert answer.status_code == 200, answer.text
+        keys.append(answer.json()["id"])
+    assert keys[:3] == ["", "", ""]
+    job = wait_for_job(client, keys[3])
+    assert job["state"] == "done", job
+    made = PageFolder.read(str(folder / keys[3] / "page-001"))
+    assert sorted(ink.name for ink in made.inks) == ["Black", "Cyan", "Magenta", "Yellow"]
+    old = {ink.name: plate for ink, plate in zip(PageFolder.read(str(page)).inks, PageFolder.read(str(page)).plates().arrays)}
+    assert all(np.array_equal(old[ink.name], plate) for ink, plate in zip(made.inks, made.plates().arrays))
+    for bad in ({"set": "..", "of": 2}, {"set": "0" * 16, "of": 99}, {"set": "0" * 16, "of": 2, "dpi": "x"}):
+        assert client.post("/api/jobs", params={"name": "a.tif", **bad}, content=b"x").status_code == 413
+
+
+@pytest.mark.parametrize("names, colorants", [
+    (["a(Cyan).tif", "a(PANTONE 485 C).tif"], ["Cyan", "PANTONE 485 C"]),
+    (["page_cyan.tif", "page_Label Red.tif"], ["Cyan", "Label Red"]), (["Gold.tiff"], ["Gold"]),
+    (["p-1-C.tif", "p-1-M.tif"], ["C", "M"])])
+def test_names_of_separations(names, colorants):
+    """By brackets, process inks, and what the names do not share."""
+    assert colorants_of(names) == colorants
+
+
+def sent_label(client):
+    """The label, sent."""
+    if not shutil.which("gs"):
+        pytest.skip("Ghostscript is not installed")
+    label = Path(tools.TOP) / "examples" / "label" / "label.pdf"
+    return client.post("/api/jobs?name=label.pdf", content=label.read_bytes()).json()["id"]
+
+
+def test_one_page_of_a_job_is_cancelled(client, folder):
+    """The other one is made; findings are there, and its trapped PDF can be fetched."""
+    key = sent_label(client)
+    end = time.monotonic() + SECONDS
+    while client.post(f"/api/jobs/{key}/cancel", json={"page": 2}).status_code != 200 and time.monotonic() < end:
+        time.sleep(0.05)
+    job = wait_for_job(client, key)
+    assert job["state"] == "done" and [page["state"] for page in job["pages"]] == ["done", "cancelled"]
+    assert job["findings"] and not (folder / key / "page-002").exists()
+    page = job["pages"][0]["id"]
+    assert fetched(client, page, "pdf").content.startswith(b"%PDF")
+    assert client.post(f"/api/jobs/{key}/cancel", json={}).status_code == 404
+
+
+def test_a_restart_takes_up_an_upload(folder):
+    """What the last server did not finish is made by the next one."""
+    with open_client(folder) as client:
+        key = sent_label(client)
+    with open_client(folder) as client:
+        job = wait_for_job(client, key)
+        assert job["state"] == "done" and [page["state"] for page in job["pages"]] == ["done", "done"]
+        assert job["name"] == "label.pdf"
+
+
+def test_tables_of_an_edited_page_make_the_same_page(client, folder, tmp_path):
+    """Beside the PDF press/plates reads them: zones and inks of the job that it makes are those of the editor, thin
+    strokes too."""
+    job = wait_for_job(client, sent_label(client))
+    key, page = job["pages"][0]["id"], folder / job["id"] / "page-001"
+    found = client.get(f"/api/pages/{key}").json()
+    kind, height = {"Label_Red": {"density": 9_000, "kind": "Opaque"}}, found["height"]
+    panel = {"name": "panel", "points": [[100, 100], [900, 100], [900, height - 100]], "settings": {"TrapWidth": 2_000},
+             "overImages": False}
+    edit(client, key, settings={"TrapWidth": 4_000}, inks=kind, zones=[panel])
+    wait_until_shown(client, key)
+    zipfile.ZipFile(io.BytesIO(fetched(client, key, "tables").content)).extractall(tmp_path)
+    shutil.copyfile(folder / job["id"] / "label.pdf", tmp_path / "label.pdf")
+    subprocess.run([str(Path(tools.PRESS) / "plates"), str(tmp_path / "label.pdf"), str(tmp_path / "made")], check=True)
+    ours, theirs = (read_job((place / "page.job").read_bytes()) for place in (page, tmp_path / "made"))
+    assert theirs.inks == ours.inks
+    found, wanted = ([one for one in job.zones if one.parameters.enabled] for job in (theirs, ours))
+    assert len(found) > 3 and [one.parameters for one in found] == [one.parameters for one in wanted]
+    assert [one.subpaths for one in found] == [one.subpaths for one in wanted]

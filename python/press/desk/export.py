@@ -1,5 +1,6 @@
 # SPDX-License-Identifier: Apache-2.0
-"""An edited page's inks, settings and zones as the tables that `press/all` reads: --inks and --zones."""
+"""An edited page's inks, settings and zones as the files that `press/all` reads beside a PDF: NAME.inks, NAME.zones for
+the settings of all pages, and NAME.K.zones for the zones of page K."""
 from __future__ import annotations
 
 from press.names import readable
@@ -8,6 +9,8 @@ from .job_edits import dictionary, number, zone_statements
 from .job_sections import OPTIONS, OWNER, sections
 from .page import DeskPage
 from .thin_zones import base_of
+
+RULE_OPTIONS = {"trim": "--trap-within media", "thin": "--no-thin-zones", "images": "--trap-images"}
 
 
 def inks_table(page: DeskPage) -> str:
@@ -20,20 +23,29 @@ def inks_table(page: DeskPage) -> str:
     return "".join(lines)
 
 
+def settings_file(page: DeskPage) -> str:
+    """The settings of the page alone, without a zone: `press/all` gives them to the zone of the whole page."""
+    before, _ = owner_parts(page)
+    return f"% Settings of page {page.folder.source.page}, for all pages.\n{before}" + (
+        dictionary(page.edits.settings) if page.edits.settings else "")
+
+
 def zones_file(page: DeskPage) -> str:
-    """What the owner set for the page, by options, files of zones and in the editor: settings, then zones. The press
-    room's own zones are left out, since `press/all` makes them again."""
-    parts = [page.original[one.start:one.end].decode("utf-8", "surrogateescape").partition("\n")[2]
-             for one in sections(page.original) if one.kind in (OPTIONS, OWNER)]
-    settings = dictionary(page.edits.settings) if page.edits.settings else ""
-    first = next((at for at, part in enumerate(parts) if "settrapzone" in part), len(parts))
+    """The owner's zones, from files and from the editor. The press room's own zones are left out, since `press/all`
+    makes them again."""
+    _, text = owner_parts(page)
     below = [zone for zone in page.edits.zones if not zone.over_images]
     above = [zone for zone in page.edits.zones if zone.over_images]
-    text = "".join(parts[:first]) + settings + "".join(parts[first:])
     text += "".join(zone_statements(zone, base_of(page.job)) for zone in [*below, *above])
     if above:
         text += "% press/all puts these zones below images: --trap-images traps within images too.\n"
-    rules = {"trim": "--trap-within media", "thin": "--no-thin-zones", "images": "--trap-images"}
-    text += "".join(f"% The page was trapped with {rules[rule]}.\n" for rule in sorted(page.edits.off))
-    return f"% Page {page.folder.source.page}, {page.width * 72 / page.resolution:g} by " \
-           f"{page.height * 72 / page.resolution:g} points, as it was edited.\n{text}"
+    return f"% Zones of page {page.folder.source.page}.\n{text}" + "".join(
+        f"% The page was trapped with {RULE_OPTIONS[rule]}.\n" for rule in sorted(page.edits.off))
+
+
+def owner_parts(page: DeskPage) -> tuple[str, str]:
+    """What options and files of zones set before the owner's first zone, and what follows."""
+    parts = [page.original[one.start:one.end].decode("utf-8", "surrogateescape").partition("\n")[2]
+             for one in sections(page.original) if one.kind in (OPTIONS, OWNER)]
+    first = next((at for at, part in enumerate(parts) if "settrapzone" in part), len(parts))
+    return "".join(parts[:first]), "".join(parts[first:])

@@ -21,7 +21,7 @@ from press import tools
 from press.errors import PressError, Status
 from press.folder import JOB, JSON, REPORT, SHEET, TRAPPED
 
-from .export import inks_table, zones_file
+from .export import inks_table, settings_file, zones_file
 from .page import DeskPage
 
 MOST_KEPT = 8
@@ -110,13 +110,16 @@ def report(name: str) -> Callable[[Wanted], Path]:
     return copied
 
 
-def table(name: str, text_of: Callable[[DeskPage], str]) -> Callable[[Wanted], Path]:
-    """A table that press/all reads."""
-    def written(wanted: Wanted) -> Path:
-        path = wanted.folder / name
-        path.write_text(text_of(wanted.page), encoding="utf-8", errors="surrogateescape")
-        return path
-    return written
+def tables(wanted: Wanted) -> Path:
+    """The inks, settings and zones as press/all reads them beside the file."""
+    name, number = Path(wanted.place.title).stem or "page", wanted.place.number
+    texts = {f"{name}.inks": inks_table(wanted.page), f"{name}.zones": settings_file(wanted.page),
+             f"{name}.{number}.zones": zones_file(wanted.page)}
+    path = wanted.folder / "tables.zip"
+    with zipfile.ZipFile(path, "w", zipfile.ZIP_DEFLATED) as archive:
+        for file, text in texts.items():
+            archive.writestr(file, text.encode("utf-8", "surrogateescape"))
+    return path
 
 
 KINDS: Mapping[str, tuple[str, str, Callable[[Wanted], Path]]] = {
@@ -124,8 +127,8 @@ KINDS: Mapping[str, tuple[str, str, Callable[[Wanted], Path]]] = {
     "screened": ("Screened plates, 1-bit TIFF (ZIP)", "screened.zip", screened),
     "plates": ("Trapped plates and their job (ZIP)", "plates.zip", plates),
     "report": ("Report", "report.txt", report(REPORT)), "report.json": ("Report as JSON", "report.json", report(JSON)),
-    "proof": ("Proof", "proof.html", proof), "inks": ("Inks, for --inks", "page.inks", table("page.inks", inks_table)),
-    "zones": ("Settings and zones, for --zones", "page.zones", table("page.zones", zones_file))}
+    "proof": ("Proof", "proof.html", proof),
+    "tables": ("Inks, settings and zones for press/all (ZIP)", "tables.zip", tables)}
 
 
 def titles(place: Place) -> list[dict[str, str]]:
