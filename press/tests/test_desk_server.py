@@ -637,7 +637,8 @@ def test_separations_become_one_page(client, folder, tmp_path):
     assert job["state"] == "done", job
     made = PageFolder.read(str(folder / keys[3] / "page-001"))
     assert sorted(ink.name for ink in made.inks) == ["Black", "Cyan", "Magenta", "Yellow"]
-    old = {ink.name: plate for ink, plate in zip(PageFolder.read(str(page)).inks, PageFolder.read(str(page)).plates().arrays)}
+    before = PageFolder.read(str(page))
+    old = {ink.name: plate for ink, plate in zip(before.inks, before.plates().arrays)}
     assert all(np.array_equal(old[ink.name], plate) for ink, plate in zip(made.inks, made.plates().arrays))
     for bad in ({"set": "..", "of": 2}, {"set": "0" * 16, "of": 99}, {"set": "0" * 16, "of": 2, "dpi": "x"}):
         assert client.post("/api/jobs", params={"name": "a.tif", **bad}, content=b"x").status_code == 413

@@ -96,9 +96,9 @@ class Inks:
     def changes(self, before: Sequence[Tints], after: Sequence[Tints], shown: int) -> NDArray[np.uint32]:
         """The pixels that traps change, for a browser that has the picture before: all places, then all colours."""
         changed = np.zeros(before[0].shape, bool)
-        for k in range(len(before)):
+        for k, (old, new) in enumerate(zip(before, after)):
             if shown >> k & 1:
-                changed |= after[k] != before[k]
+                changed |= new != old
         at = np.flatnonzero(changed)
         colours = self.paint([plane.ravel()[at] for plane in after], shown)
         return np.concatenate([at.astype(np.uint32), colours])

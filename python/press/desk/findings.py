@@ -46,8 +46,8 @@ def places_of(page: PageFolder, kind: str, text: str, zones: Sequence[dict[str, 
 def box_of(page: PageFolder, rect: Rect) -> list[int]:
     """A rectangle in points as left, top, width and height in pixels."""
     scale, height = page.source.resolution / 72, page.head.height
-    return [round(rect.left * scale), round(height - rect.upper * scale), max(1, round((rect.right - rect.left) * scale)),
-            max(1, round((rect.upper - rect.lower) * scale))]
+    width, rows = (max(1, round(side * scale)) for side in (rect.right - rect.left, rect.upper - rect.lower))
+    return [round(rect.left * scale), round(height - rect.upper * scale), width, rows]
 
 
 def around(rings: Iterable[Sequence[Sequence[float]]]) -> list[list[int]]:

@@ -86,8 +86,8 @@ class Job:
         """The job in a folder, as a record has it; None if it was not sent to the editor."""
         said = read_record(folder).get(SAID, {}).get(UPLOAD)
         try:
-            return cls(folder, os.path.basename(said["source"]), str(said["name"]), str(said["kind"]), dict(said["options"]),
-                       str(said["state"]), str(said["message"]), int(said["count"]),
+            return cls(folder, os.path.basename(said["source"]), str(said["name"]), str(said["kind"]),
+                       dict(said["options"]), str(said["state"]), str(said["message"]), int(said["count"]),
                        {int(page) for page in said["cancelled"]}, {}, list(said["findings"]))
         except (TypeError, KeyError, ValueError):
             return None
@@ -190,7 +190,7 @@ class Queue:
             with self._child(job, page, words) as child:
                 assert child.stderr is not None
                 for line in child.stderr:
-                    self._heard(job, page, line, complaints)
+                    self._heard(job, line, complaints)
                 child.wait()
             if page in job.cancelled or not self.is_open:
                 return ""
@@ -213,7 +213,7 @@ class Queue:
                 with self.wake:
                     job.child = None
 
-    def _heard(self, job: Job, page: int, line: bytes, complaints: list[str]) -> None:
+    def _heard(self, job: Job, line: bytes, complaints: list[str]) -> None:
         """A line of progress, a finding, or a complaint."""
         text = clean(line.decode("utf-8", "replace").strip())
         text = re.sub(r"^press-[a-z]+: ", "", text).replace(f"{job.folder}{os.sep}", "").removeprefix(f"{job.source}: ")

@@ -18,7 +18,8 @@ TAIL = (THIN, PAIR, IMAGES, END)
 """What comes after the owner's zones."""
 MARKS: Sequence[tuple[str, bytes]] = (
     (OPTIONS, rb"% Trapping parameters that were told by words:"), (OWNER, rb"% From .*:"),
-    (PAGE, rb"% The whole page:"), (TRIM, rb"% The page within its \w+ box .*:"), (LAYER, rb"% The layer .* \(--layer\):"),
+    (PAGE, rb"% The whole page:"), (TRIM, rb"% The page within its \w+ box .*:"),
+    (LAYER, rb"% The layer .* \(--layer\):"),
     (THIN, rb"% Thin strokes \(.*:"), (IMAGES, rb"% Within images nothing is trapped.*:"),
     (PAIR, rb"% .* and .* \((?:not trapped|[\d.]+ times the trap width), .*\):"))
 MARK = re.compile(b"^(?:" + b"|".join(b"(?P<%s>%s)" % (kind.encode(), mark) for kind, mark in MARKS) + b")$", re.M)

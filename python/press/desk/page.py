@@ -209,7 +209,8 @@ class DeskPage:
                     "version": self.version, "shown": self.shown, "epoch": self.epoch, "preview": self.is_preview(),
                     "levels": self.before.last_level, "canUndo": bool(self.undo), "canRedo": bool(self.redo),
                     "inks": [self._ink(k) for k in range(len(self.names))], "settings": self._settings(self.job),
-                    "edits": self._edits_json(), "jobZones": self._job_zones(), "canSoftProof": self.inks.soft is not None,
+                    "edits": self._edits_json(), "jobZones": self._job_zones(),
+                    "canSoftProof": self.inks.soft is not None,
                     "rules": rules_of(self.original, self.edits, self.first is not None),
                     "versions": [{"number": one.number, "time": one.time} for one in self.versions]}
 

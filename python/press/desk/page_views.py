@@ -176,7 +176,7 @@ def any_of(mask: NDArray[np.bool_], times: int) -> NDArray[np.bool_]:
     height, width = (-(-side // times) * times for side in mask.shape)
     full = np.zeros((height, width), bool)
     full[:mask.shape[0], :mask.shape[1]] = mask
-    return np.asarray(full.reshape(height // times, times, width // times, times).any(axis=(1, 3)))
+    return np.asarray(full.reshape((height // times, times, width // times, times)).any(axis=(1, 3)))
 
 
 def answer_json(answer: why.Answer, pixel: tuple[int, int], titles: Sequence[str]) -> dict[str, Any]:

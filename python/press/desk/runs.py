@@ -158,7 +158,7 @@ class PageRun:
 
         def report() -> None:
             while not ended.wait(PROGRESS_SECONDS) and self._is_wanted(asked):
-                share = min(0.99, written(page.folder.path) / total / page.live.kind().itemsize)
+                share = min(0.99, written(page.folder.path) / total / (1 if page.maxval < 256 else 2))
                 self.notify(kind="progress", share=share, text=f"the whole page: {share:.0%}")
         thread = threading.Thread(target=report, daemon=True, name="progress")
         thread.start()

@@ -18,6 +18,7 @@ import uvicorn
 from press import tools
 from press.errors import PressError, Status, UsageError, reason
 from press.files import need_folder, table_lines
+from press.picture import need_profile
 
 from .guard import LOOPBACK, allowed_hosts
 from .server import application
@@ -26,6 +27,14 @@ from .store import Store
 USUAL_PORT = 8631
 SHORTEST_TOKEN = 16
 SECONDS_TO_END = 1.0
+
+
+@dataclass(frozen=True)
+class How:
+    """Whether a browser is opened, and the profile of the press if there is one."""
+
+    opens_browser: bool = True
+    profile: str | None = None
 
 
 @dataclass(frozen=True)
@@ -126,20 +135,22 @@ def find_library() -> None:
                          ) from fault
 
 
-def serve(folder: str, where: Where, opens_browser: bool, say: Callable[[str], None]) -> None:
+def serve(folder: str, where: Where, how: How, say: Callable[[str], None]) -> None:
     """Serves a folder until a signal comes. `say` gets the line with the address."""
     need_folder(folder)
     if not os.access(folder, os.W_OK):
         raise PressError(Status.OUTPUT, "cannot be written to", folder)
+    if how.profile:
+        need_profile(how.profile)
     find_library()
     token = where.token()
     address = f"http://{bracketed(where.host)}:{where.port}/" + (f"?token={token}" if token else "")
     with bound_socket(where) as listening:
-        store = Store(folder)
+        store = Store(folder, how.profile)
 
         def ready() -> None:
             say(address)
-            if opens_browser:
+            if how.opens_browser:
                 webbrowser.open(address)
         config = uvicorn.Config(application(store, where.hosts(), token), log_level="warning", access_log=False,
                                 timeout_keep_alive=30)

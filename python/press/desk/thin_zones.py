@@ -82,8 +82,8 @@ def composed(original: bytes, edits: Edits, places: Places, size: tuple[float, f
     is that of the page in points."""
     text = below_thin(original, edits)
     *below, last = read_job(text[:thin_place(text)] + b"\nnewpath 0 0 moveto settrapzone").zones[1:]
-    width, height = size
-    whole = ((0, 0), (round(width * SCALE), 0), (round(width * SCALE), round(height * SCALE)), (0, round(height * SCALE)))
+    right, upper = (round(side * SCALE) for side in size)
+    whole = (0, 0), (right, 0), (right, upper), (0, upper)
     composer = Composer([], Wanted(size, thin=places))
     composer.owner = tuple(below)
     pieces = composer.thin_zones([owner_piece(zone) for zone in below or (replace(last, subpaths=(whole,)),)])

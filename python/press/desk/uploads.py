@@ -1,6 +1,6 @@
 # SPDX-License-Identifier: Apache-2.0
-"""Files that browsers send, streamed to disk within limits: one file is a job, and the separations of a page, which come
-as several TIFF files, are one job together."""
+"""Files that browsers send, streamed to disk within limits: one file is a job, and the separations of a page, which
+come as several TIFF files, are one job together."""
 from __future__ import annotations
 
 import os
@@ -40,7 +40,7 @@ def colorants_of(names: list[str]) -> list[str]:
     a process ink that the name ends with; else what the names do not have in common."""
     stems = [name.rpartition(".")[0] for name in names]
     common = os.path.commonprefix(stems) if len(stems) > 1 else ""
-    common = common[:max((common.rfind(one) for one in " _-.") , default=-1) + 1]
+    common = common[:max((common.rfind(one) for one in " _-."), default=-1) + 1]
     found = []
     for stem in stems:
         bracketed = re.search(r"\(([^()]+)\)$", stem)
