@@ -38,9 +38,9 @@ VERSION := $(shell cat VERSION)
 PROGRAMS := $(shell awk '!/^\#/ && NF { print $$1 }' programs.txt)
 # Each program as it is built or released.
 BUILT = $(if $(BIN),$(wildcard $(PROGRAMS:%=$(BIN)/%)),$(foreach one,$(PROGRAMS),$(shell tools/program --there $(one))))
-COMMANDS := preflight check plates trap tiff pdf screen look proof all farm farm.sbatch watch slurm-here press trapper
-# The folders of the press room's Python package.
-PACKAGE := $(shell find python/press -type d ! -name __pycache__)
+COMMANDS := preflight check plates trap tiff pdf screen look proof all desk farm farm.sbatch watch slurm-here press trapper
+# The folders of the press room's Python package, and of the library's, by which the trap editor calls libtrap.
+PACKAGE := $(shell find python/press python/trapping -type d ! -name __pycache__)
 LIBRARY := library/out/libtrap.so.1 library/out/libtrap.a
 PAGES1 := $(wildcard man/*.1)
 PAGES5 := $(wildcard man/*.5)
@@ -92,6 +92,8 @@ install-press:
 install-library: library
 	$(INSTALL) -d $(DESTDIR)$(libdir)
 	$(INSTALL_DATA) library/out/libtrap.so.1 $(DESTDIR)$(libdir)
+	$(INSTALL) -d $(DESTDIR)$(OWN)/python/trapping
+	ln -sfr $(DESTDIR)$(libdir)/libtrap.so.1 $(DESTDIR)$(OWN)/python/trapping/libtrap.so.1
 
 # What a program is compiled and linked with.
 install-headers: library

@@ -11,8 +11,8 @@ from room import COMMANDS, TOP, Room, needs
 PAGES = {"check": "press-preflight", "farm.sbatch": "press-farm", "press": "press", "trapper": "trapper"}
 # Pages of other packages that they speak of need not be installed.
 PASSED_OVER = ("referenced manual not found", "operating system explicitly specified")
-# What the shell commands share; and the trap editor, which docs/PRESS.md does not list as a command.
-NO_COMMANDS = {"press.sh", "desk"}
+# What the shell commands share.
+NO_COMMANDS = {"press.sh"}
 ELSEWHERE = {"--help", "--version", "--sshlogin"}
 COMMAND_FILES = sorted(path.name for path in COMMANDS.iterdir() if path.is_file() and os.access(path, os.X_OK) and path.name not in NO_COMMANDS)
 

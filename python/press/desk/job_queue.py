@@ -23,7 +23,7 @@ from press.errors import PressError, Status
 from press.folder import JobFolder
 from press.names import clean
 
-from .record import SAID, UPLOAD, changing, read_record
+from .record import UPLOAD, changing, part_of
 
 SECONDS_OF_PAGE = 600
 MEMORY = 12 << 30
@@ -84,7 +84,7 @@ class Job:
     @classmethod
     def kept(cls, folder: Path) -> Job | None:
         """The job in a folder, as a record has it; None if it was not sent to the editor."""
-        said = read_record(folder).get(SAID, {}).get(UPLOAD)
+        said: Any = part_of(folder).get(UPLOAD)
         try:
             return cls(folder, os.path.basename(said["source"]), str(said["name"]), str(said["kind"]),
                        dict(said["options"]), str(said["state"]), str(said["message"]), int(said["count"]),

@@ -30,7 +30,7 @@ from .job_queue import Job as QueuedJob
 from .outputs import Output, Outputs, Place, titles
 from .page import DeskPage
 from .page_views import PageViews
-from .record import read_record
+from .record import file_in
 from .runs import PageRun
 from .uploads import SetOf, Upload, Uploads
 
@@ -229,10 +229,10 @@ def with_waiting(sent: QueuedJob, pages: list[dict[str, Any]]) -> list[dict[str,
 
 def source_of(job: Path, name: bytes) -> Path | None:
     """The file that a job's pages were made of, if it lies in the job's folder or beside it and is still that file."""
-    wanted = read_record(job).get("file", {})
+    wanted = file_in(job)
     for folder in (job, job.parent):
         path = folder / os.fsdecode(name)
-        if path.is_file() and (not isinstance(wanted, dict) or wanted.get("bytes") in (None, path.stat().st_size)):
+        if path.is_file() and (wanted is None or wanted.bytes == path.stat().st_size):
             return path
     return None
 

@@ -22,7 +22,7 @@ from press.zones import Composer, Wanted, Writer, owner_piece
 
 from .job_edits import WHOLE_PAGE, Edits, below_thin, thin_place
 from .job_sections import IMAGES, section_of
-from .record import options_of
+from .record import options_for
 
 Places = Mapping[float, Sequence[Rect]]
 
@@ -61,7 +61,7 @@ def by_width(places: Sequence[Sequence[float]]) -> dict[float, list[Rect]]:
 def first_strokes(page: PageFolder, original: bytes) -> Strokes | None:
     """What `press/plates` found; None if the job is not its own, or it was not to look for thin strokes."""
     layout = read_layout(page)
-    if not layout or options_of(page).get("no-thin-zones"):
+    if not layout or options_for(page).get("no-thin-zones"):
         return None
     return Strokes(rule_of(read_job(original), Edits()), by_width(layout.get("thin", {}).get("places", [])))
 
