@@ -43,7 +43,8 @@ typedef uint8_t trap_status;
  *
  *   job, job_size       the bytes of the job: inks, zones and trapping parameters (docs/JOBS.md); read, never written. At most 1,048,576 bytes.
  *   names, names_size   the names of the planes' colorants as in the job, with an LF between two and none at the end:
- *                       "Cyan\nMagenta\nYellow\nBlack". 1 to 16 names of 1 to 64 bytes, none twice.
+ *                       "Cyan\nMagenta\nYellow\nBlack". 1 to 16 names, none twice, each of 1 to 64 bytes from 33 to 126
+ *                       without ( ) < > [ ] { } / and %.
  *   samples             the planes, one after the other in the order of the names, each row by row from the top, each row from
  *                       the left. 0 is no ink, maxval is full ink. The trapped planes replace them.
  *   sample_count        the number of samples, not bytes: names * height * step.
@@ -88,7 +89,7 @@ struct trap_place {
 /* trap_halo: the rows and columns that a window needs around its core, on each side that is not a border of the sheet.
  *
  *   job, job_size       the bytes of the job, as above.
- *   halo                is set to that number: half the reach of the job's widest trap, in whole samples, and 1 at least.
+ *   halo                is set to that number: how far the job's widest trap reaches, rounded up to whole samples, and 1 at least.
  *   text, text_size, text_len   as above. The text is empty, or the error line.
  *
  * Returns TRAP_DONE; or TRAP_JOB or TRAP_MEMORY, and *halo is not changed. A number above 128 is returned only for a job whose
@@ -103,9 +104,11 @@ trap_status trap_halo(const uint8_t *job, size_t job_size, uint32_t *halo,
  * window's. The place must be valid:
  *   - The window is on the sheet, and the core in the window.
  *   - On each side that is not a border of the sheet, the window extends at least trap_halo samples beyond its core.
- *   - If the job has zones with paths, the window's left side is a multiple of a step from the sheet's left side, and its
- *     lower side a multiple of it from the sheet's lower side. The step is resolution / gcd(resolution, 720000) samples: 1 at
- *     most common resolutions (72, 96, 150, 300, 600, 1200, 2400), and 127 at 2540.
+ *   - If the job has zones (settrapzone, with a path or without), the window's left side is a multiple of a step from the sheet's
+ *     left side, and its lower side a multiple of it from the sheet's lower side. The step is resolution / gcd(resolution,
+ *     720000) samples: 1 at most common resolutions (72, 96, 150, 300, 600, 1200, 2400), and 127 at 2540.
+ *
+ * A core without rows or columns traps nothing.
  *
  * Returns TRAP_DONE, and each sample of the core is what the trapping rule gives for the whole sheet, whatever lies beyond the
  * window; all other samples are unchanged. The text is the core's part of the report: its line "page" has the sheet's sides, and

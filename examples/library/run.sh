@@ -31,22 +31,27 @@ program=$(ls -t "${CHECK_PROGRAMS:-.}/trap" $top/crates/trap/out/trap $top/out/r
 by=${program:+trap}
 trap_files() { if [ -n "$program" ]; then "$program" page "$@"; else $out/page -8 "$@"; fi; }
 
-# compare_rip: what the RIP traps in its raster, and what becomes of the plates as files that the RIP writes untrapped.
+# compare_rip PROGRAM WORDS PLATE ..: what a RIP traps while it renders the label, and what becomes of the plates as files that it
+# writes untrapped. WORDS are those between the PDF and the job; the plates come in the order in which the RIP has them.
 compare_rip() {
-  local page plate words
+  local rip=$1 dpi=$2 page plate words
+  rm -rf $out/rendered $out/ripped $out/paged
   mkdir $out/rendered $out/ripped $out/paged
-  $out/rip ../label/label.pdf 300 1050x700 - $out/rendered >$out/told
-  $out/rip ../label/label.pdf 300 1050x700 label.job $out/ripped >$out/told
+  # shellcheck disable=SC2086
+  $out/"$rip" ../label/label.pdf $dpi - $out/rendered >$out/told
+  # shellcheck disable=SC2086
+  $out/"$rip" ../label/label.pdf $dpi label.job $out/ripped >$out/told
   for page in 1 2; do
     words=()
-    # in the order in which Ghostscript has them
-    for plate in Cyan Magenta Yellow Black Gold_Foil Label_Red; do
+    for plate in Cyan Magenta Yellow Black "${@:3}"; do
       [ ! -f "$out/rendered/$page-$plate.pgm" ] || words+=("$plate:$out/rendered/$page-$plate.pgm:$out/paged/$page-$plate.pgm")
     done
     trap_files label.job "$out/paged/$page.report" "${words[@]}"
+    # a RIP that traps by tiles writes no report
+    [ -f "$out/ripped/$page.report" ] || rm "$out/paged/$page.report"
   done
   diff -r $out/paged $out/ripped
-  ! diff -rq $out/rendered $out/ripped >$out/told || { echo "examples/library: rip.c changed nothing" >&2; exit 1; }
+  ! diff -rq $out/rendered $out/ripped >$out/told || { echo "examples/library: $rip changed nothing" >&2; exit 1; }
 }
 
 # A page of PGM files, held as bytes and as 16-bit numbers.
@@ -87,10 +92,36 @@ fi
 if flags=$(./libgs-flags); then
   # shellcheck disable=SC2086
   compiled rip $flags
-  compare_rip
+  compare_rip rip "300 1050x700" Gold_Foil Label_Red
   well "rip.c traps the two pages of the label in Ghostscript's own raster, as ${by:-page.c} does with its plates as files"
 else
   skip "rip.c" "libgs and its headers (libgs-dev) are not there"
+fi
+
+# MuPDF's pixels, rendered band by band. Debian's library is a static one, so what it needs has to be there too.
+if there pkg-config && flags=$(pkg-config --cflags --libs --static mupdf 2>$out/told); then
+  # shellcheck disable=SC2086
+  "$CC" -std=c99 -D_POSIX_C_SOURCE=200809L -O2 -Wall -Wextra -Werror -I$top/library $flags -c -o $out/rip_mupdf.o rip_mupdf.c
+  # shellcheck disable=SC2086
+  if "$CC" -o $out/rip_mupdf $out/rip_mupdf.o $library/libtrap.a $flags -lharfbuzz 2>$out/told; then
+    compare_rip rip_mupdf 300 Label_Red Gold_Foil
+    well "rip_mupdf.c traps the two pages of the label as MuPDF renders them, as ${by:-page.c} does with its plates as files"
+  else
+    skip "rip_mupdf.c" "a library that MuPDF needs is not there"
+  fi
+else
+  skip "rip_mupdf.c" "MuPDF's library and headers (libmupdf-dev) are not there"
+fi
+
+# Poppler's pixels, trapped tile by tile.
+if there c++ && there pkg-config && pkg-config --atleast-version=22.6 poppler &&
+  flags=$(pkg-config --cflags --libs poppler) && [ -f "$(pkg-config --variable=includedir poppler)/poppler/SplashOutputDev.h" ]; then
+  # shellcheck disable=SC2086
+  c++ -std=c++17 -O2 -Wall -Wextra -Werror -I$top/library -o $out/rip_poppler rip_poppler.cc $library/libtrap.a ${flags//-I/-isystem }
+  compare_rip rip_poppler 300 Label_Red Gold_Foil
+  well "rip_poppler.cc traps the two pages of the label in tiles, as ${by:-page.c} does with its plates as files"
+else
+  skip "rip_poppler.cc" "Poppler's library and its private headers (libpoppler-private-dev), 22.6 or newer, are not there"
 fi
 
 if there python3; then

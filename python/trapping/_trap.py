@@ -92,8 +92,10 @@ def trap_window(job: Job, names: Sequence[str], window: Samples, *, sheet: Tuple
 
 
 def halo(job: Job) -> int:
-    """The rows and columns that a window needs around its core, on each side that is not a border of the sheet: half the reach of
-    the job's widest trap in whole samples, and at least one. Raises Refusal if the job has a fault."""
+    """The rows and columns that a window needs around its core, on each side that is not a border of the sheet.
+
+    It is how far the job's widest trap reaches, rounded up to whole samples, and at least one. Raises Refusal if the job has a
+    fault."""
     data, number = job_bytes(job), ctypes.c_uint32(0)
     text, length = ctypes.create_string_buffer(_TEXT_SIZE), ctypes.c_size_t(0)
     status = export("trap_halo")(data, len(data), ctypes.byref(number), ctypes.addressof(text), _TEXT_SIZE, ctypes.byref(length))
