@@ -72,7 +72,7 @@ def test_unknown_options_and_operands(folder: Room, command: str) -> None:
     folder.refused(2, f"press-{command}: unknown option --dip{see}", command, "--dip=600", *words)
     folder.refused(2, f"press-{command}: unknown option -x{see}", command, *words, "-x")
     folder.refused(2, f"press-{command}: a word too many: much{see}", command, *words, "much")
-    folder.refused(2, rf"press-{command}: (IN|IN\.pdf|DIR) is missing{see}", command)
+    folder.refused(2, rf"press-{command}: (IN|IN\.pdf|DIR|A) is missing{see}", command)
 
 
 @pytest.mark.parametrize("command, line, words", WRONG_VALUES, ids=[f"{one[0]} {' '.join(one[2])}" for one in WRONG_VALUES])
