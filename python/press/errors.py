@@ -2,17 +2,17 @@
 """Refusals: one exception with a status, a message and a place."""
 import enum
 
-# Made of the statuses of docs/PRESS.md by tools/pages.
+# Made of docs/STATUSES.md by tools/pages.
 STATUSES = """Status:
   0  done
-  1  some page failed; the others are complete (press/all, press/farm)
+  1  some page failed, and the others are complete (press/all, press/farm); two versions differ (press/compare)
   2  usage error: an unknown option, a missing argument or one too many
   3  a tool or a program is not installed
-  4  a file cannot be read
+  4  a file cannot be read, or was replaced while it was read
   5  Ghostscript cannot read the PDF, or the PDF has no such page
   6  the folder has no plates
   7  the plates do not form a page: two sizes, too many colorants or samples
-  8  an output cannot be written or replaced, or another run works there
+  8  an output cannot be written or replaced, is another file's, or another run works there
   9  a trapping program refuses the page or its job; its line is printed
   10 preflight has a warning, and --strict is given
 """
