@@ -1,0 +1,214 @@
+# SPDX-License-Identifier: Apache-2.0
+"""The work on one page of a run: its steps, in order, and what is kept of it if one fails."""
+import contextlib
+import os
+import shutil
+import time
+from collections.abc import Iterator, Sequence
+from dataclasses import dataclass
+
+from . import engine, identity, job_record, look, page as pages_of_source, preflight, proof, tiff, unchanged
+from .errors import PressError, Status, reason
+from .events import FindingMade, Observer, PageDone, PageFailed, StepDone, StepStarted, Warned
+from .files import disk_use, folder_beside, free_room, is_full
+from .findings import Finding, refusal_for
+from .folder import TIFF, TRAPPED, WARNINGS, JobFolder, PageFolder, read_table
+from .inks import InkBook
+from .names import PROCESS, clean
+from .recorded import options_from, without_run_only
+from .settings import Settings
+from .source import Source
+
+
+class StepFailed(Exception):
+    """A step of a page failed: its command, and the refusal."""
+
+    def __init__(self, command: str, refusal: PressError) -> None:
+        super().__init__(command, refusal)
+        self.command, self.refusal = command, refusal
+
+
+def refusal_of(fault: OSError, place: str) -> PressError:
+    """The refusal for a fault of the system, with the file that it names, or else a place."""
+    named = os.fsdecode(fault.filename) if isinstance(fault.filename, (str, bytes)) else place
+    refusal = PressError(Status.OUTPUT, reason(fault), named)
+    refusal.__cause__ = fault
+    return refusal
+
+
+def line_of(fault: PressError | OSError, place: str) -> str:
+    """What people read of a refusal or a fault of the system."""
+    return str(refusal_of(fault, place) if isinstance(fault, OSError) else fault)
+
+
+@dataclass
+class PageWork:
+    """The work on one page of a run."""
+
+    given: identity.Input
+    source: Source
+    settings: Settings
+    book: InkBook
+    job: JobFolder
+    found: list[Finding]
+    number: int
+    observer: Observer
+
+    @contextlib.contextmanager
+    def step(self, what: str, command: str) -> Iterator[None]:
+        """A step of the page: its beginning and its end are events, and a failure names its command."""
+        self.observer(StepStarted(self.number, what))
+        start = time.monotonic()
+        try:
+            yield
+        except PressError as refusal:
+            raise StepFailed(command, refusal) from refusal
+        except OSError as fault:
+            raise StepFailed(command, refusal_of(fault, self.job.page(self.number))) from fault
+        self.observer(StepDone(self.number, what, time.monotonic() - start))
+
+    def refuse(self) -> None:
+        """Refuses the page where its findings call for that."""
+        own = [one for one in self.found if one.page == self.number]
+        refusal = refusal_for(self.source.path, own, self.settings.strict)
+        if refusal:
+            raise refusal
+
+    def need_room(self) -> None:
+        """Refuses a page whose plates alone take more of the disk than there is, before they are made."""
+        info = self.source.page(self.number)
+        if info:
+            width, height = info.samples(self.settings.box, self.settings.dpi)
+            need, free = width * height * (len(PROCESS) + len(info.spots)), free_room(self.job.path)
+            if need > free:
+                raise PressError(Status.OUTPUT, pages_of_source.room_line(need, free), self.source.place(self.number))
+
+    def look(self, scratch: str) -> pages_of_source.Page:
+        """Renders the page, and checks it."""
+        self.refuse()
+        self.need_room()
+        page = pages_of_source.prepare(self.source, self.number, self.settings, self.book, scratch)
+        for one in preflight.check_page(page, self.settings, self.book, self.job.path).findings:
+            self.found.append(one)
+            self.observer(FindingMade(one))
+        self.refuse()
+        return page
+
+    def make(self, folder: str) -> engine.Report | None:
+        """Goes the whole way into a folder: plates, traps, TIFF files, pictures and proof; None if the page has not
+        changed, and keeps what it has."""
+        scratch = os.path.join(os.path.dirname(folder), "scratch")
+        with self.step("a look", "press-preflight"):
+            os.mkdir(scratch)
+            page = self.look(scratch)
+        with self.step("plates", "press-plates"):
+            os.mkdir(folder)
+            layout = pages_of_source.layout_of(page, self.settings)
+            made = pages_of_source.write_page(page, self.settings, folder, layout)
+            part = self.part(pages_of_source.record_of(page, self.settings, made))
+            job_record.write_record(folder, part)
+            for one in layout.findings(self.number, self.settings.dpi):
+                self.found.append(one)
+                self.observer(FindingMade(one))
+            self.write_warnings(made)
+            # Ghostscript's planes are not needed any more.
+            del page
+            shutil.rmtree(scratch)
+        if self.settings.only_changed:
+            if unchanged.is_unchanged(self.job.page(self.number), made, part):
+                unchanged.keep(self.job.page(self.number), made, part)
+                return None
+            self.remove_old()
+        with self.step("traps", "press-trap"):
+            trapped = engine.trap(made, self.settings)
+            self.warn("press-trap", trapped.warnings)
+        if self.settings.tiff:
+            with self.step("TIFF files", "press-tiff"):
+                options = tiff.TiffOptions(channels=self.settings.channels, icc=self.settings.icc)
+                tiff.write_tiffs(made, made.file(TIFF), options)
+        if self.settings.look:
+            with self.step("pictures", "press-look"):
+                look.draw_pictures(made)
+        if self.settings.proof:
+            self.make_part(made)
+        return trapped.report
+
+    def remove_old(self) -> None:
+        """Removes what an earlier run made of the page."""
+        try:
+            self.job.remove_old(self.number)
+        except PressError as refusal:
+            raise StepFailed("press-all", refusal) from refusal
+
+    def part(self, page: job_record.Record) -> job_record.Record:
+        """The record of the page, of which so much is known."""
+        options = without_run_only(options_from(self.settings, self.job.path))
+        return job_record.part_of(self.given.file, self.number, options, page)
+
+    def need_same(self) -> None:
+        """Refuses the page if its file was replaced since the start of the run."""
+        line = self.given.changed_line()
+        if line:
+            raise StepFailed("press-all", PressError(Status.INPUT, line))
+
+    def make_part(self, made: PageFolder) -> None:
+        """What the page gives to the proof sheet. If it cannot be drawn, of a page that is too large for this
+        machine say, the plates are kept."""
+        try:
+            with self.step("proof", "press-proof"):
+                proof.write_part(made.path)
+        except StepFailed as failed:
+            why = f"{failed.command}: {failed.refusal}"
+            self.warn("press-all", [f"{self.source.place(self.number)}: no proof is drawn: {why}"])
+
+    def warn(self, command: str, texts: Sequence[str]) -> None:
+        """Warnings of a step."""
+        for text in texts:
+            self.observer(Warned(self.number, command, text))
+
+    def write_warnings(self, made: PageFolder) -> None:
+        """Keeps the findings that concern the page in its folder."""
+        lines = [clean(f"{one.level}: {one.kind}: {one.text}") + "\n" for one in self.found
+                 if one.page in (self.number, None)]
+        with open(made.file(WARNINGS), "w", encoding="utf-8", errors="surrogateescape") as file:
+            file.writelines(lines)
+
+    def do(self) -> PageDone | PageFailed:
+        """Does the page: its folder is in OUT whole, or what was made of it under another name, with the
+        line that says why."""
+        start, final = time.monotonic(), self.job.page(self.number)
+        with folder_beside(self.job.path, inside=True) as made:
+            folder = os.path.join(made, "page")
+            try:
+                if not self.settings.only_changed:
+                    self.remove_old()
+                report = self.make(folder)
+                self.need_same()
+            except StepFailed as failed:
+                changed = self.given.changed_line()
+                why = f"press-all: {changed}" if changed else f"{failed.command}: {failed.refusal}"
+                for temporary in (folder, os.path.join(made, "scratch"), made):
+                    why = why.replace(temporary, self.job.failed(self.number))
+                if is_full(failed.refusal.__cause__):
+                    # The other pages get the room.
+                    shutil.rmtree(made, ignore_errors=True)
+                with contextlib.suppress(PressError):
+                    self.job.remove_old(self.number)
+                self.job.keep_failed(self.number, folder, why, self.part({}))
+                return PageFailed(self.number, failed.refusal.status, why)
+            if report:
+                if self.settings.tiff_only:
+                    unchanged.record_plates(folder, self.number)
+                    drop_plates(folder)
+                os.rename(folder, final)
+        changed = (report or engine.read_report(final)).changed
+        return PageDone(self.number, len(read_table(final)[1]), changed, time.monotonic() - start, disk_use(final),
+                        kept=report is None)
+
+
+def drop_plates(folder: str) -> None:
+    """Leaves of a page what is no plate."""
+    for place in (folder, os.path.join(folder, TRAPPED)):
+        for file in os.listdir(place):
+            if file.endswith(".pgm"):
+                os.remove(os.path.join(place, file))
