@@ -302,3 +302,104 @@ def test_nothing_is_cut_off_at_any_size(tmp_path, size):
         assert desk.browser.execute_script("return document.documentElement.scrollWidth <= innerWidth")
     finally:
         desk.close()
+
+
+def test_the_second_picture_shows_an_earlier_version_and_other_settings(desk):
+    """Its pixels are those of the plates of that version; both pictures keep one place."""
+    desk.open()
+    desk.close_up()
+    desk.settle()
+    first = desk.picture()
+    desk.set("set-TrapWidth", 4)
+    desk.wait("return desk.app.page.version === 2")
+    desk.settle()
+    desk.click("#compare")
+    desk.set("compared", "version 1")
+    desk.wait("return !!document.querySelector('#other .live-picture')")
+    desk.settle()
+    found = desk.browser.execute_script(
+        "const live = document.querySelector('#other .live-picture'), c = document.createElement('canvas');"
+        "Object.assign(c, {width: live.width, height: live.height}); c.getContext('2d').drawImage(live, 0, 0);"
+        "return c.toDataURL()").partition(",")[2]
+    pixels = np.asarray(image.open(io.BytesIO(base64.b64decode(found))).convert("RGB"))
+    assert pixels.shape == first.shape and np.array_equal(pixels, first)
+    desk.browser.execute_script("desk.other.map.panBy([17, 9], {animate: false})")
+    desk.wait("return desk.view.map.getCenter().distanceTo(desk.other.map.getCenter()) < 1")
+
+
+def test_a_finding_leads_to_its_place(desk):
+    """Its link shows the place in the middle of the view."""
+    (desk.folder / "made" / "page-001" / "warnings.txt").write_text("warning: total-ink: 320% at 20, 10 mm\n")
+    desk.open()
+    desk.click("#finding-0-0")
+    x, y = desk.browser.execute_script("const {lng, lat} = desk.view.map.getCenter(); return [lng, lat]")
+    assert abs(x - 20 * 72 / 25.4) < 8 and abs(HEIGHT - y - 10 * 72 / 25.4) < 8
+
+
+def test_a_zone_is_drawn_and_changed_by_keys_alone(desk):
+    """Draw at the middle of the view by Enter, then set a corner and the width by numbers; and ask why."""
+    desk.open()
+    desk.close_up()
+    desk.settle()
+    desk.browser.execute_script("desk.view.map.setZoom(4, {animate: false})")
+    body = desk.browser.find_element(By.TAG_NAME, "body")
+    body.send_keys("r")
+    page_map = desk.browser.find_element(By.ID, "map")
+    page_map.send_keys(Keys.ENTER)
+    desk.wait("return desk.drawing.points.length === 1")
+    for key in (Keys.ARROW_RIGHT, Keys.ARROW_DOWN):
+        page_map.send_keys(key)
+        desk.wait("return !desk.view.map._panAnim?._inProgress")
+    desk.wait("const {lng, lat} = desk.view.map.getCenter(), [x, y] = desk.drawing.points[0];"
+              "return lng > x + 5 && lat > y + 5")
+    page_map.send_keys(Keys.ENTER)
+    desk.wait("return desk.app.page.edits.zones.length === 1")
+    corner = desk.browser.find_element(By.ID, "zone-0-0-0")
+    corner.clear()
+    corner.send_keys("10", Keys.TAB)
+    desk.wait("return Math.abs(desk.app.page.edits.zones[0].points[0][0] - 10 * 72 / 25.4) < 1")
+    desk.settle()
+    page_map.send_keys(Keys.ENTER)
+    desk.wait("return document.getElementById('why').textContent.includes('Pixel')")
+
+
+CONTRAST = """
+  const light = (rgb) => { const [r, g, b] = rgb.map((c) => { c /= 255; return c <= 0.03928 ? c / 12.92 : ((c + 0.055) / 1.055) ** 2.4; });
+    return 0.2126 * r + 0.7152 * g + 0.0722 * b; };
+  const parts = (text) => (text.match(/[\\d.]+/g) || []).map(Number);
+  const below = (one) => { for (let at = one; at; at = at.parentElement) { const c = parts(getComputedStyle(at).backgroundColor);
+    if (c.length === 3 || c[3] === 1) return c.slice(0, 3); } return [255, 255, 255]; };
+  document.querySelectorAll('details').forEach((one) => { one.open = true; });
+  return [...document.querySelectorAll('header *, nav *, aside *, footer *')].filter((one) => one.offsetParent && !one.disabled
+      && [...one.childNodes].some((node) => node.nodeType === 3 && node.textContent.trim()))
+    .map((one) => { const [a, b] = [light(parts(getComputedStyle(one).color).slice(0, 3)), light(below(one))].sort((x, y) => y - x);
+      return [(a + 0.05) / (b + 0.05), one.tagName + ' ' + one.textContent.trim().slice(0, 40)]; })
+    .filter(([ratio]) => ratio < 4.5);"""
+
+
+@pytest.mark.parametrize("scheme", ["light", "dark"])
+def test_text_has_contrast_and_controls_have_names(desk, scheme):
+    """WCAG AA, in both colour schemes: 4.5 to 1; and no control without a name for screen readers."""
+    desk.browser.execute_cdp_cmd("Emulation.setEmulatedMedia",
+                                 {"features": [{"name": "prefers-color-scheme", "value": scheme}]})
+    (desk.folder / "made" / "page-001" / "warnings.txt").write_text("warning: total-ink: 320% at 20, 10 mm\n")
+    desk.open()
+    assert desk.browser.execute_script(f"return matchMedia('(prefers-color-scheme: {scheme})').matches")
+    assert desk.browser.execute_script(CONTRAST) == []
+    nodes = desk.browser.execute_cdp_cmd("Accessibility.getFullAXTree", {})["nodes"]
+    roles = {"button", "checkbox", "slider", "spinbutton", "textbox", "combobox", "link"}
+    unnamed = [node["role"]["value"] for node in nodes if not node.get("ignored")
+               and node.get("role", {}).get("value") in roles and not node.get("name", {}).get("value")]
+    assert unnamed == []
+
+
+def test_separations_are_dropped_together(desk, tmp_path):
+    """TIFF files that are chosen at once become one page."""
+    page = desk.folder / "made" / "page-001"
+    subprocess.run([str(Path(tools.PRESS) / "tiff"), "-u", str(page), str(tmp_path / "tiff")], check=True)
+    files = [str(tmp_path / "tiff" / f"made-1({name}).tif") for name in ("Cyan", "Magenta", "Yellow", "Black")]
+    desk.open()
+    desk.browser.find_element(By.ID, "file").send_keys("\n".join(files))
+    desk.wait("return desk.app.jobs.some((one) => one.name.includes('4 separations') && one.state === 'done')")
+    made = next(one for one in desk.folder.iterdir() if one.name.startswith("job-")) / "page-001"
+    assert all((made / f"{ink}.pgm").read_bytes() == (page / f"{ink}.pgm").read_bytes() for ink in ("Cyan", "Black"))

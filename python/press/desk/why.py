@@ -151,15 +151,18 @@ class Window:
         return [((1, 0), self.edges_between((every, but_last), (every, but_first))),
                 ((0, 1), self.edges_between((but_last, every), (but_first, every)))]
 
-    def near(self, pixel: Pixel, which: int) -> list[tuple[int, int, int]]:
-        """Squared distance and place (doubled grid: column, row) of the edges of one kind, nearest first."""
+    def nearest(self, pixel: Pixel, which: int) -> tuple[int, int, int] | None:
+        """The nearest edge of one kind: its squared distance and its place on the doubled grid, column and row; the
+        leftmost, then the topmost of several. None if there is none."""
         found = []
         for step, masks in self.edges:
             rows, columns = np.nonzero(masks[which])
-            across, down = 2 * columns + step[0], 2 * rows + step[1]
-            squares = (across - 2 * pixel[0]) ** 2 + (down - 2 * pixel[1]) ** 2
-            found += list(zip(squares.tolist(), across.tolist(), down.tolist()))
-        return sorted(found)
+            if rows.size:
+                across, down = 2 * columns + step[0], 2 * rows + step[1]
+                squares = (across - 2 * pixel[0]) ** 2 + (down - 2 * pixel[1]) ** 2
+                least = np.flatnonzero(squares == squares.min())
+                found += list(zip(squares[least].tolist(), across[least].tolist(), down[least].tolist()))
+        return min(found, default=None)
 
     def colour(self, pixel: Pixel) -> Colour:
         """The colour of a pixel of the window."""
@@ -194,10 +197,10 @@ def explain(window: Window, pixel: Pixel) -> Answer:
     number = int(window.zones[pixel[1], pixel[0]])
     parameters = window.job.zones[number].parameters
     old = window.colour(pixel).tints
-    found = window.near(pixel, 2)
-    if not found:
+    found = window.nearest(pixel, 2)
+    if found is None:
         return Answer(number, parameters, old, old, _why_no_edge(window, pixel), None)
-    trap = _Trap(window, pixel, parameters, found[0])
+    trap = _Trap(window, pixel, parameters, found)
     reason = trap.obstacle()
     if reason:
         return Answer(number, parameters, old, old, reason, trap.edge() if trap.is_within() else None)
@@ -212,8 +215,8 @@ def _why_no_edge(window: Window, pixel: Pixel) -> str:
         return "not trapped: an ink that keeps traps away lies here"
     if not window.enabled[pixel[1], pixel[0]]:
         return "not trapped: traps are off in this zone"
-    within = page_reach(window.job) ** 2
-    if not any(square <= within for square, _, _ in window.near(pixel, 0)[:1]):
+    differing = window.nearest(pixel, 0)
+    if differing is None or differing[0] > page_reach(window.job) ** 2:
         return "not trapped: no two colours meet within a trap width"
     both_on = [differ & on for _, (differ, on, _) in window.edges]
     if not any(mask.any() for mask in both_on):

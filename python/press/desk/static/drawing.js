@@ -46,6 +46,12 @@ export class Drawing {
   }
 
   /** @param {number[]} point */
+  isAtLast(point) {
+    const [x, y] = point.map(Math.round), last = this.points.at(-1);
+    return this.points.length > 2 && !!last && last[0] === x && last[1] === y;
+  }
+
+  /** @param {number[]} point */
   trace(point) {
     if (!this.tool || !this.points.length) return;
     this.outline?.remove();

@@ -36,7 +36,7 @@ const drawing = new Drawing(view, (points) => edit((edits) => {
   edits.zones.push({ name: `Zone ${edits.zones.length + 1}`, points, settings: {}, overImages: false });
   app.chosenZone = edits.zones.length - 1;
 }));
-Object.assign(window, { desk: { app, view, other } });
+Object.assign(window, { desk: { app, view, other, drawing } });
 
 // Pages
 
@@ -339,7 +339,7 @@ function turn(by) {
 
 function showKeys() {
   const dialog = /** @type {HTMLDialogElement} */ (byId('keys')), list = document.createElement('dl');
-  for (const [key, what] of [...KEYS, ['+ −', 'zoom'], ['arrows', 'move the page'], ['Enter', 'why: the pixel in the middle; ends a polygon'], ['Esc', 'stop drawing']]) {
+  for (const [key, what] of [...KEYS, ['+ −', 'zoom'], ['arrows', 'move the page'], ['Enter', 'the pixel in the middle: why it is trapped, or a corner of the zone that is drawn; twice at one place ends a polygon'], ['Esc', 'stop drawing']]) {
     const term = document.createElement('dt'), key_ = document.createElement('kbd'), text = document.createElement('dd');
     key_.textContent = key;
     term.append(key_);
@@ -359,7 +359,9 @@ document.addEventListener('keydown', (event) => {
   if (event.key === 'Escape') drawing.stop();
   if (event.key === 'Enter' && element.classList.contains('map')) {
     const { lng, lat } = view.map.getCenter();
-    if (drawing.tool) drawing.finish(); else ask(Math.floor(lng), Math.floor(lat));
+    if (drawing.tool === 'polygon' && drawing.isAtLast([lng, lat])) drawing.finish();
+    else if (drawing.tool) drawing.clicked([lng, lat]);
+    else ask(Math.floor(lng), Math.floor(lat));
   }
   KEYS.find(([key]) => key === event.key)?.[2]();
 });
