@@ -10,6 +10,7 @@ import numpy
 import pytest
 from press.files import is_full
 from press.folder import JobFolder
+from press.job_record import read_record
 from press.plates import write_pgm
 from room import Room
 from small_pdf import page, pdf
@@ -55,6 +56,20 @@ def test_names_that_would_move_the_cursor(room: Room) -> None:
     told = room.goes("preflight", name).out
     assert "\x1b" not in told and told.count("\n") == 1, told
     assert r"bad\x1b[31m\x0ared.pdf: page 1: " in told
+
+
+def test_names_with_line_breaks(room: Room, built: None) -> None:
+    """A file with a line break in its name goes the whole way. Each line that is printed is one line, and the record has the name."""
+    room.sample("pair.pdf")
+    (room / "pair.pdf").rename(room / "two\nlines.pdf")
+    done = room.run("all", "--dpi", "72", "--pdf", "two\nlines.pdf", "out")
+    assert done.status == 0 and done.out.count("\n") == 1 and done.out.startswith("page 1: done: ")
+    assert all(line.startswith("press-all: ") and r"two\x0alines.pdf" in line for line in done.err.splitlines()), done
+    assert (room / "out/two\nlines-trapped.pdf").is_file() and (room / "out/page-001/tiff/two\nlines-1(Cyan).tif").is_file()
+    assert read_record(str(room / "out"))["file"]["name"] == "two\nlines.pdf"
+    room.goes("all", "--quiet", "--dpi", "72", "--page", "1", "two\nlines.pdf", "out")
+    (room / "two\nlines.pdf").rename(room / "other.pdf")
+    room.refused(8, r"press-all: out: has the pages of two\\x0alines\.pdf, and not of other\.pdf: .*", "all", "other.pdf", "out")
 
 
 def test_names_that_are_no_utf8(room: Room, built: None) -> None:

@@ -1,8 +1,9 @@
 # SPDX-License-Identifier: Apache-2.0
 """Inks: what is told of them and what is guessed, the library, technical inks, and the house's own table."""
 import re
+import shutil
 
-from room import Room
+from room import TOP, Room
 
 
 def test_order_of_what_is_told(room: Room) -> None:
@@ -78,3 +79,16 @@ def test_names_that_are_nearly_the_same(room: Room) -> None:
     assert "warning: process-name: cyan is a spot with a plate of its own, and is called like a process ink: is Cyan meant" in told
     assert re.search("warning: ink-twice: (WARM RED and Warm Red|Warm Red and WARM RED) are two plates", told), told
     assert "inks-line" not in told and "of cyan is not told" not in told, told
+
+
+def test_installed_commands_name_their_own_table(room: Room) -> None:
+    """Away from the repository the library's table is named by the path that it has there."""
+    room.sample("technical.pdf")
+    place = room.beside / "installed"
+    for name in ("press", "python/press", "docs"):
+        shutil.copytree(TOP / name, place / name, ignore=shutil.ignore_patterns("tests", "__pycache__", "static"))
+    for name in ("VERSION", "programs.txt"):
+        shutil.copy(TOP / name, place)
+    told = room.goes(place / "press/preflight", "technical.pdf").out
+    found = re.search(r"the density of PANTONE Reflex Blue C is 1\.64 by (.*), line [0-9]+: look", told)
+    assert found and found[1] == str(place / "press/inks/spots.inks"), told

@@ -4,7 +4,7 @@ import os
 import signal
 
 import pytest
-from room import LABEL, Room, needs
+from room import LABEL, TEMPORARY, Room, needs
 
 pytestmark = pytest.mark.usefixtures("built")
 
@@ -86,14 +86,16 @@ def test_one_run_at_a_time(room: Room) -> None:
 @needs("parallel", "mutool")
 @pytest.mark.parametrize("command", ["all", "farm"])
 def test_killed_runs_are_cleared_away(room: Room, command: str) -> None:
-    """What a killed run leaves is cleared away by the next one, and none of its tools goes on."""
+    """What a killed run leaves is cleared away by the next one, among the temporary files too, and none of its tools goes on."""
     room.sample("pair.pdf")
     child = room.start(command, "--quiet", *(["--lenient"] if command == "farm" else []), LABEL, "busy", env=at_work(room))
     room.wait_until(lambda: begun(room), f"{command} does not begin", child)
     room.wait_until(room.left_over, "nothing is at work in the folder", child)
     assert room.stop(child, signal.SIGKILL) == -signal.SIGKILL
     room.rests()
-    room.clear_temporary()
+    assert [name for name in os.listdir(room.temporary) if TEMPORARY.match(name)] or command == "farm"
+    if command == "farm":
+        room.clear_temporary()
     (room.beside / "slow-now").unlink()
     room.goes(command, "--quiet", "--no-proof", "pair.pdf", "busy")
     assert (room / "busy/page-001/tiff").is_dir()

@@ -18,7 +18,7 @@ def event_record(event: Event) -> dict[str, Any]:
     if isinstance(event, FindingMade):
         one = event.finding
         return {"event": "finding", "page": one.page, "kind": one.kind, "level": one.level, "text": one.text}
-    record = {"event": NAMES[type(event)], **dataclasses.asdict(event)}
+    record: dict[str, Any] = {"event": NAMES[type(event)], **dataclasses.asdict(event)}
     if "seconds" in record:
         record["seconds"] = round(record["seconds"], 3)
     return record

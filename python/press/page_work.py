@@ -201,8 +201,8 @@ class PageWork:
                     unchanged.record_plates(folder, self.number)
                     drop_plates(folder)
                 os.rename(folder, final)
-        changed = (report or engine.read_report(final)).changed
-        return PageDone(self.number, len(read_table(final)[1]), changed, time.monotonic() - start, disk_use(final),
+        told = report or engine.read_report(final)
+        return PageDone(self.number, len(read_table(final)[1]), told.changed, time.monotonic() - start, disk_use(final),
                         kept=report is None)
 
 
