@@ -4,6 +4,7 @@ import re
 import shutil
 
 import pytest
+from pdf_writer import Pdf
 from readers import changed_in
 from room import Room, needs
 
@@ -47,3 +48,20 @@ def test_zone_of_the_owner_stays(room: Room, built: None) -> None:
         assert changed_in(room / name, 51, 42, 398, 316) == 0
         assert (changed_in(room / name, *BESIDE["photo"]) > 0) == (not options)
         assert changed_in(room / name, 0, 0, 500, 400) > 0
+
+
+@needs("mutool")
+def test_large_type_and_shapes_above_an_image(room: Room, built: None) -> None:
+    """Type of 30 points and a rectangle of 30 by 20 points over a photograph are trapped at their edges, and the photograph
+    beside them is not."""
+    samples = b"".join(bytes((255, 0, 0, 0) if x % 9 < 5 else (0, 255, 0, 0)) for _ in range(40) for x in range(60))
+    file = Pdf()
+    picture = file.image("/Width 60 /Height 40 /BitsPerComponent 8 /ColorSpace /DeviceCMYK", samples)
+    font = "/Font << /F << /Type /Font /Subtype /Type1 /BaseFont /Helvetica-Bold >> >>"
+    file.page("q 160 0 0 100 10 10 cm /Im Do Q 0 0 1 0 k 20 70 30 20 re f BT /F 30 Tf 100 20 Td (QM) Tj ET", (180, 120),
+              f"{font} /XObject << /Im {picture} >>")
+    room.write("over.pdf", file.bytes())
+    room.goes("plates", "over.pdf", "page", "--dpi", "144", "--width", "1pt")
+    room.goes("trap", "page")
+    assert changed_in(room / "page", 36, 56, 68, 48) > 50 and changed_in(room / "page", 196, 150, 120, 68) > 50
+    assert changed_in(room / "page", 120, 110, 180, 30) == 0

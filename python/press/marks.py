@@ -14,6 +14,8 @@ from .rects import Point, Rect, around, without
 DESCENT, ASCENT = -0.25, 0.95
 # A shape of at most so many points a side is one box; slanted sides of larger ones are cut into boxes of so many.
 SMALL_SHAPE, SIDE_STEP = 12.0, 4.0
+# An upright side has so much of a box around it, so that it is one.
+SIDE_WIDTH = 0.01
 MOST_PIECES = 64
 # More boxes than this are not kept: a map say, on which no image has type above it that matters.
 MOST_BOXES = 100_000
@@ -43,7 +45,7 @@ def outline_of(polygons: Sequence[Sequence[Point]], closed: bool, half_width: fl
     box = grown(around(list(points)), half_width)
     if max(box.right - box.left, box.upper - box.lower) <= SMALL_SHAPE:
         return (box,)
-    return tuple(grown(side, half_width) for points in polygons for side in sides_of(points, closed))
+    return tuple(grown(side, half_width + SIDE_WIDTH) for points in polygons for side in sides_of(points, closed))
 
 
 def sides_of(points: Sequence[Point], closed: bool) -> Iterator[Rect]:

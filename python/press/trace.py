@@ -76,7 +76,7 @@ class Trace:
         elif tag == "tile":
             self.tiles.append(tile_of(values))
             if len(self.tiles) == 1:
-                self.add_mark([self.tiles[0]], True, 0.0)
+                self.add_mark([self.tiles[0]])
         elif tag == "layer":
             self.layers.append(values.get("name", ""))
         elif tag == "end_layer":
@@ -94,10 +94,10 @@ class Trace:
             corners = glyph_corners(float(values["x"]), float(values["y"]), float(values.get("adv", 0.6)), self.trm)
             points = [mapped(self.matrix, x, y) for x, y in corners]
             a, b, c, d = self.trm
-            self.add_mark([points], True, 0.0)
+            self.add_mark([points])
             self.note_paint(around(points), math.sqrt(abs(a * d - b * c)) * scale_of(self.matrix))
         elif tag == "fill_image_mask":
-            self.add_mark([corners_of(matrix_of(values), 0, 0, 1, 1)], True, 0.0)
+            self.add_mark([corners_of(matrix_of(values), 0, 0, 1, 1)])
         elif tag.startswith("clip_"):
             # Polygons of a clip by a path are kept; any other, of text or of a mask, cuts nothing away here.
             self.clips.append([])
@@ -126,7 +126,7 @@ class Trace:
         elif tag in ("fill_path", "stroke_path") and self.path is not None:
             if not self.tiles:
                 polygons = [points for points in self.path if points]
-                self.add_mark(polygons, tag == "fill_path", self.half_width)
+                self.add_mark(polygons, self.half_width, tag == "fill_path")
                 self.note_path(polygons, tag == "stroke_path")
             self.path = None
         elif tag in ("fill_text", "stroke_text"):
@@ -151,8 +151,9 @@ class Trace:
         else:
             points.append(mapped(self.matrix, float(values["x"]), float(values["y"])))
 
-    def add_mark(self, polygons: list[Polygon], closed: bool, half_width: float) -> None:
-        """Something that is painted, as far as the clips let it show."""
+    def add_mark(self, polygons: list[Polygon], half_width: float = 0.0, closed: bool | None = None) -> None:
+        """Something that is painted, as far as the clips let it show: a path, closed or not; or, if `closed` is None,
+        a glyph, a mask or a pattern, whose edges are anywhere in its box."""
         if self.masks or not polygons:
             return
         clip = self.clip_box()
@@ -162,7 +163,8 @@ class Trace:
         self.order += 1
         self.note_layers(box)
         if self.boxes < MOST_BOXES:
-            outline = [one.common(clip) for one in outline_of(polygons, closed, half_width)]
+            outline = (box,) if closed is None else \
+                tuple(one.common(clip) for one in outline_of(polygons, closed, half_width))
             self.boxes += len(outline)
             self.marks.append(Mark(self.order, box, tuple(one for one in outline if one != NOTHING)))
 
