@@ -101,6 +101,13 @@ def soft_mask() -> pikepdf.Pdf:
     return pdf
 
 
+def opaque_group(space: Any) -> pikepdf.Pdf:
+    """A page with a group of other colours in which nothing blends, as Cairo writes it. Its ground is of RGB."""
+    pdf = one_page(b".2 .5 .3 rg 0 0 204 132 re f\n" + ART, Group=group(space))
+    pdf.pages[0].obj.Resources.ExtGState = Dictionary(Plain=Dictionary(ca=1, CA=1, BM=Name.Normal, SMask=Name("/None")))
+    return pdf
+
+
 def profile(pdf: pikepdf.Pdf) -> Any:
     """A colour space of a CMYK profile that Ghostscript brings along; DeviceRGB where it is not there."""
     path = Path("/usr/share/color/icc/ghostscript/default_cmyk.icc")
@@ -169,6 +176,7 @@ CASES: dict[str, Callable[[], pikepdf.Pdf]] = {
     "group-gray": lambda: one_page(ART + SEE_THROUGH, Group=group(Name.DeviceGray)),
     "group-rgb": lambda: one_page(ART + SEE_THROUGH, Group=group(Name.DeviceRGB)),
     "group-profile": profile_group,
+    "group-rgb-opaque": lambda: opaque_group(Name.DeviceRGB),
     "soft-mask": soft_mask,
     "unbalanced": lambda: one_page(b"q q .9 0 0 .9 5 5 cm\n" + ART),
     "too-many-Q": lambda: one_page(b"Q Q\n" + ART + b"Q\n"),

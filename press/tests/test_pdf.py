@@ -10,8 +10,8 @@ import numpy as np
 import pikepdf
 import pytest
 from pdf_cases import (ART, CASES, CROPPED, SEE_THROUGH, draw, files_in, folders_of, group, hidden_layer, joined,
-                       killed_at_rename, layers_off, one_page, run_command, run_with_room, saved, three_pages,
-                       with_annotations)
+                       killed_at_rename, layers_off, one_page, opaque_group, run_command, run_with_room, saved,
+                       three_pages, with_annotations)
 from pikepdf import Array, Dictionary, Name, String
 from room import Room
 
@@ -66,7 +66,7 @@ def plain_page(tmp_path: Path) -> tuple[Path, list[Path]]:
 # Exactness
 
 def test_hostile_pages_render_to_their_trapped_plates(tmp_path: Path) -> None:
-    """35 pages that a trapped PDF may fail at."""
+    """36 pages that a trapped PDF may fail at."""
     path = saved(joined(CASES.values()), tmp_path / "in.pdf")
     folders = folders_of(path)
     result = trapped(path, folders)
@@ -240,6 +240,21 @@ def test_a_tagged_page_that_blends_in_other_colours(tmp_path: Path) -> None:
     assert found.status is Status.PDF and str(found).startswith("in.pdf: page 1: the page is tagged")
     path = saved(one_page(b"Q " + ART, StructParents=0), tmp_path / "in2.pdf")
     assert trapped(path, folders_of(path)).verified
+
+
+@pytest.mark.parametrize("space", [Name.DeviceRGB, Name.DeviceGray])
+def test_a_group_in_which_nothing_blends(tmp_path: Path, space: Any) -> None:
+    """As Cairo writes one: its contents stay as they are, tagged or not, and render to their trapped plates. The group is
+    there again when the traps are taken off."""
+    with opaque_group(space) as pdf:
+        pdf.pages[0].obj.StructParents = 0
+        path = saved(pdf, tmp_path / "in.pdf")
+    assert trapped(path, folders_of(path)).verified
+    with pikepdf.open(tmp_path / OUTPUT) as pdf:
+        assert "/Group" not in pdf.pages[0].obj and len(contents_of(pdf.pages[0])) == 3
+    write_without_traps(str(tmp_path / OUTPUT), str(tmp_path / "clean.pdf"), "in.pdf")
+    with pikepdf.open(tmp_path / "clean.pdf") as pdf:
+        assert pdf.pages[0].obj.Group.CS == space
 
 
 def test_files_that_are_no_pdf(plain: tuple[Path, list[Path]]) -> None:

@@ -16,6 +16,8 @@ from .pdf_grid import box_of, inherited, plain_number
 LEVEL = 6
 # The entry by which streams and objects that press/pdf adds are found again.
 MARK = "/YAVE_Traps"
+# The entry that keeps a page's group while the page has traps.
+GROUP = "/YAVE_Group"
 MOST_NAMES = 10_000
 
 
@@ -141,6 +143,20 @@ def set_apart(pdf: pikepdf.Pdf, page: pikepdf.Page, closing: bytes) -> None:
     del page.obj["/Group"]
     page.obj.Resources = Dictionary(XObject=Dictionary(Page=form))
     page.obj.Contents = marked_stream(pdf, b"/Page Do\n", "Apart")
+
+
+def leave_out_group(page: pikepdf.Page) -> None:
+    """Leaves out the group of a page in which nothing blends. Ghostscript passes over such a group, and MuPDF would turn
+    traps into its colours."""
+    page.obj[GROUP] = page.obj.Group
+    del page.obj["/Group"]
+
+
+def put_back_group(page: pikepdf.Page) -> None:
+    """Undoes `leave_out_group`."""
+    if GROUP in page.obj:
+        page.obj.Group = page.obj[GROUP]
+        del page.obj[GROUP]
 
 
 def put_back(pdf: pikepdf.Pdf, page: pikepdf.Page, form: Any) -> None:

@@ -8,8 +8,9 @@ import pikepdf
 from pikepdf import Array, Dictionary, Name, String
 
 from .inks import Ink
-from .pdf_contents import (MARK, add_resource, blends_in_ink, content_streams, deflated, left_open, marked_stream,
-                           mend_surplus, numbers, own_resources, put_back, set_apart)
+from .pdf_blending import has_transparency
+from .pdf_contents import (MARK, add_resource, blends_in_ink, content_streams, deflated, leave_out_group, left_open,
+                           marked_stream, mend_surplus, numbers, own_resources, put_back, put_back_group, set_apart)
 from .pdf_inks import PROCESS, device_n, name_of
 from .pdf_tiles import TileImage
 
@@ -108,14 +109,17 @@ def layer_of(pdf: pikepdf.Pdf) -> Any:
 def wrap(pdf: pikepdf.Pdf, page: pikepdf.Page) -> Any:
     """Closes what the page's contents leave open, so that what comes after them begins with the state that a page
     begins with. Their streams stay as they are, between two others, of which the last one is returned; but contents
-    that restore more than they save are mended, and a group of other colours is set apart."""
+    that restore more than they save are mended, and a group of other colours is set apart, or left out if nothing of
+    the page blends."""
     left = left_open(page)
     closing = left.closing_words()
     if left.underflow:
         mend_surplus(pdf, page)
-    if not blends_in_ink(page):
+    if not blends_in_ink(page) and has_transparency(page):
         set_apart(pdf, page, closing)
         closing = b""
+    elif not blends_in_ink(page):
+        leave_out_group(page)
     before = marked_stream(pdf, b"q\n", "Before")
     after = pdf.make_indirect(marked_stream(pdf, b"\n" + closing + b"Q\n", "After"))
     page.obj.Contents = Array([before, *content_streams(page), after])
@@ -221,6 +225,7 @@ def clear_page(pdf: pikepdf.Pdf, page: pikepdf.Page) -> bool:
     elif any(mark_of(stream) for stream in streams):
         page.obj.Contents = Array([stream for stream in streams if not mark_of(stream)])
         drop_resources(page.obj.get("/Resources", Dictionary()))
+    put_back_group(page)
     if "/Annots" in page.obj:
         kept = [one for one in page.obj.Annots if not mark_of(one)]
         page.obj.Annots = Array(kept)
