@@ -14,6 +14,7 @@ from __future__ import annotations
 import math
 from collections.abc import Iterable, Sequence
 from dataclasses import dataclass, replace
+from itertools import product
 
 import numpy as np
 
@@ -68,25 +69,64 @@ def lines_of(parts: Sequence[Part]) -> list[list[tuple[Part, Box]]]:
 
     cells: dict[tuple[tuple[int, ...], bool, int, int], list[int]] = {}
     for k, (part, box) in enumerate(items):
-        around = box.grown(int(min(max(4, 0.6 * (box.lower - box.upper)), 60)))
-        for row in range(around.upper // 32, around.lower // 32 + 1):
-            for column in range(around.left // 64, around.right // 64 + 1):
-                cell = cells.setdefault((part.colour, part.attached, row, column), [])
-                for other in cell:
-                    if root(other) != root(k) and are_beside(box, items[other][1]):
-                        parent[root(other)] = root(k)
-                cell.append(k)
+        for row, column in cells_around(box.grown(int(min(max(4, 0.6 * (box.lower - box.upper)), 60)))):
+            cell = cells.setdefault((part.colour, part.attached, row, column), [])
+            for other in cell:
+                if root(other) != root(k) and are_beside(box, items[other][1]):
+                    parent[root(other)] = root(k)
+            cell.append(k)
     together: dict[int, list[tuple[Part, Box]]] = {}
     for k, item in enumerate(items):
         together.setdefault(root(k), []).append(item)
     return list(together.values())
 
 
-def are_beside(one: Box, other: Box) -> bool:
-    """Whether two boxes are in one line."""
+def cells_around(box: Box) -> Iterable[tuple[int, int]]:
+    """The cells of a grid over the page that a box lies in."""
+    return product(range(box.upper // 32, box.lower // 32 + 1), range(box.left // 64, box.right // 64 + 1))
+
+
+def slides_at(items: Iterable[tuple[Part, Box]]) -> bool:
+    """Whether most parts of a line have centred traps."""
+    return sum(1 if part.slides else -1 for part, _ in items) > 0
+
+
+def with_pieces(lines: list[list[tuple[Part, Box]]]) -> list[list[tuple[Part, Box]]]:
+    """Lines with what touches them and is by itself a little too thin for a centred trap, as half a letter that hangs
+    on the other half by a corner."""
+    faint = [slides_at(items) and REACHES[0] <= stroke_of(part for part, _ in items) / SHARE < LEAST_CENTRED
+             for items in lines]
+    cells: dict[tuple[tuple[int, ...], int, int], list[tuple[int, Box]]] = {}
+    for at, items in enumerate(lines):
+        for part, box in () if faint[at] else items:
+            for row, column in cells_around(box):
+                cells.setdefault((part.colour, row, column), []).append((at, box))
+    for at, items in enumerate(lines):
+        beside = (home for part, box in items if faint[at] for row, column in cells_around(box)
+                  for home, other in cells.get((part.colour, row, column), ()) if is_piece(box, other))
+        home = next(beside, None)
+        if home is not None:
+            lines[home].extend(items)
+            lines[at] = []
+    return [items for items in lines if items]
+
+
+def between(one: Box, other: Box) -> tuple[list[int], int, int]:
+    """The heights of two boxes, the lesser first, and how far apart they are across and down; below 0 they overlap."""
     heights = sorted((one.lower - one.upper, other.lower - other.upper))
     across = max(one.left, other.left) - min(one.right, other.right)
-    down = max(one.upper, other.upper) - min(one.lower, other.lower)
+    return heights, across, max(one.upper, other.upper) - min(one.lower, other.lower)
+
+
+def is_piece(one: Box, other: Box) -> bool:
+    """Whether two boxes touch, as those of a letter's halves that meet at a corner."""
+    _, across, down = between(one, other)
+    return max(across, down) <= 0
+
+
+def are_beside(one: Box, other: Box) -> bool:
+    """Whether two boxes are in one line."""
+    heights, across, down = between(one, other)
     in_line = down < -0.3 * heights[0] and across < 0.5 * heights[1]
     dot = heights[0] < 0.4 * heights[1] and down < 0.25 * heights[1] and across < 0.1 * heights[1]
     return in_line or dot
@@ -113,9 +153,8 @@ def reach_for(stroke: float, slides: bool = False, attached: bool = False, slack
 def narrow_lines(parts: Sequence[Part], rule: Rule, resolution: int) -> list[Line]:
     """The lines whose trap has to be narrower than the page's, each with its width."""
     found = []
-    for items in lines_of(parts):
-        members = tuple(part for part, _ in items)
-        slides = sum(1 if part.slides else -1 for part in members) > 0
+    for items in with_pieces(lines_of(parts)):
+        members, slides = tuple(part for part, _ in items), slides_at(items)
         stroke = stroke_of(members)
         slack = LIGHTER_SLACK if all(part.lighter for part in members) else SLACK
         reach = reach_for(stroke, slides, members[0].attached, slack)
