@@ -1,12 +1,16 @@
 # SPDX-License-Identifier: Apache-2.0
 """The proof sheet: what stands in it, that it fetches nothing, that its script draws, and what misregistration opens."""
+import base64
+import io
 import json
 import re
 import subprocess
 import tempfile
 from pathlib import Path
 
+import numpy as np
 import pytest
+from PIL import Image
 from room import LABEL, Room, needs
 
 PARTS = ("Proof of pair.pdf", 'class="slider"', "Out of register", "still bares", "<h3>Inks", "<h3>The job", "TrapWidth 0.2835",
@@ -67,3 +71,26 @@ def test_sheet_of_the_label(room: Room, built: None) -> None:
     for name, options in (("page", ()), ("traps", ("--traps",)), ("register", ("--misregister", "--part", "most", "--enlarge", "4"))):
         room.goes("look", page, f"{name}.png", *options)
         assert (room / f"{name}.png").stat().st_size > 1000
+
+
+@needs("qpdf")
+def test_the_trapped_pdf_and_screened_plates(room: Room, built: None) -> None:
+    """A run's sheet has a link to its trapped PDF; with --screened it has the dots of the screened plates, which have to be
+    of these plates."""
+    room.sample("two.pdf")
+    room.goes("all", "--quiet", "--dpi", "144", "--pdf", "--kind", "Gold Foil=Normal", "two.pdf", "out")
+    sheet = (room / "out/proof.html").read_text()
+    assert 'href="two-trapped.pdf"' in sheet and "byte for byte" in sheet
+    room.goes("screen", "out/page-001", "bits", "--dpi", "600", "--lpi", "60")
+    room.goes("proof", "out", "--screened", "bits")
+    sheet = (room / "out/proof.html").read_text()
+    assert "Screened plates of page 1" in sheet and re.search(r"<td>Warm Red</td><td>\d\d\.\d\d°</td><td>[56]\d\.\d\d</td>", sheet)
+    room.goes("proof", "out/page-001", "--screened", "bits")
+    dots = re.search(r'class="dots" src="data:image/png;base64,([^"]+)"', (room / "out/page-001/proof.html").read_text())
+    picture = np.asarray(Image.open(io.BytesIO(base64.b64decode(dots[1]))))
+    assert picture.shape == (200, 200, 3) and 2 <= len(np.unique(picture.reshape(-1, 3), axis=0)) <= 16
+    plate = room / "out/page-001/trapped/Cyan.pgm"
+    plate.write_bytes(plate.read_bytes()[:-1] + b"\x07")
+    for folder, line in (("bits", "was screened of other plates"), (".", "no screened plates here")):
+        told = room.run("proof", "out/page-001", "--screened", folder)
+        assert told.status == 6 and line in told.err, told

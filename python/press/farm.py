@@ -270,10 +270,10 @@ def run_farm(farm: Farm, progress: FarmLines) -> Status:
             progress.page(f"page {page}: failed: {why} (--again does the page)")
         if lost:
             amend_log(farm.out, pages, lost)
+        has_pdf = not farm.settings.pdf or write_pdf(farm, progress)
         if farm.settings.proof:
             with contextlib.suppress(PressError):
                 write_sheet_of_all(farm.out, ())
-        has_pdf = not farm.settings.pdf or write_pdf(farm, progress)
     return Status.PAGES_FAILED if status or lost or not has_pdf else Status.DONE
 
 

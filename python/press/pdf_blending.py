@@ -1,6 +1,6 @@
 # SPDX-License-Identifier: Apache-2.0
-"""Whether a page's resources have transparency: only then do renderers blend in the colours of its group. Ghostscript and
-MuPDF look at resources, whether the contents use them or not."""
+"""Whether a page's resources have transparency: only then does Ghostscript blend in the colours of the page's group. It
+looks at resources, whether the contents use them or not."""
 from collections.abc import Iterator
 from typing import Any
 

@@ -146,8 +146,8 @@ def set_apart(pdf: pikepdf.Pdf, page: pikepdf.Page, closing: bytes) -> None:
 
 
 def leave_out_group(page: pikepdf.Page) -> None:
-    """Leaves out the group of a page in which nothing blends. Ghostscript passes over such a group, and MuPDF would turn
-    traps into its colours."""
+    """Leaves out the group of a page in which nothing blends. Ghostscript passes over such a group, and MuPDF would
+    turn traps into its colours."""
     page.obj[GROUP] = page.obj.Group
     del page.obj["/Group"]
 

@@ -1,15 +1,11 @@
 # SPDX-License-Identifier: Apache-2.0
 """Proof sheets: one HTML file that fetches nothing, of a page or of all pages of a run."""
-import base64
 import functools
-import html
-import io
 import json
 import os
-from collections.abc import Iterable, Iterator, Sequence
+from collections.abc import Iterable, Iterator, Mapping, Sequence
 
 import numpy
-from PIL import Image
 
 from . import gaps
 from .engine import Report, read_report
@@ -19,32 +15,34 @@ from .findings import page_ranges
 from .folder import (JOB, JSON, NO_PLATES, PART, REPORT, SHEET, TABLE, TRAPPED, WARNINGS, JobFolder, PageFolder,
                      read_layout, read_table, read_text)
 from .names import readable
-from .picture import Light, Painter, Part, mean_of, pale, shifted, thickened, trap_width
+from .picture import Painter, Part, mean_of, pale, shifted, thickened, trap_width
 from .plates import Array
+from .proof_html import data_uri, escaped, image, long, swatch, table
+from .proof_outputs import screened_reports, screened_text, trapped_pdf_text
 from .tables import is_seen
 from .tools import PRESS
 
 MOST_PAGES, OVERVIEW, PLATE_WIDTH = 12, 1000, 240
 DETAIL_WIDTH, DETAIL_HEIGHT, BY_TRAPS, BY_BARED = 160, 120, 4, 2
 RED, BLUE = (215, 0, 30), (120, 150, 210)
-JPEG_QUALITY, LEAST_SHIFT = 88, 4
-escaped = html.escape
+LEAST_SHIFT = 4
 
 
 # Sheets
 
-def write_sheet_of_page(folder: str, asked: Sequence[int] = ()) -> None:
-    """Writes the proof sheet of a page's folder into it. Refuses it if other pages are asked for."""
+def write_sheet_of_page(folder: str, asked: Sequence[int] = (), screened: str | None = None) -> None:
+    """Writes the proof sheet of a page's folder into it, with the screened plates in the folder `screened` if one is
+    given. Refuses it if other pages are asked for."""
     source = read_table(folder)[0]
     if any(page != source.page for page in asked):
         raise PressError(Status.PDF, f"--page: the folder has page {source.page} alone", folder)
     title = f"Proof of {readable(source.pdf)}, page {source.page}"
-    write_sheet(os.path.join(folder, SHEET), title, "", [part_of_page(folder)])
+    write_sheet(os.path.join(folder, SHEET), title, "", parts_with_dots({source.page: folder}, screened))
 
 
-def write_sheet_of_all(out: str, asked: Sequence[int] = ()) -> None:
+def write_sheet_of_all(out: str, asked: Sequence[int] = (), screened: str | None = None) -> None:
     """Writes the proof sheet of the pages of a run into their folder: of those that are asked for, or of all, or of the
-    twelve with most traps if there are more."""
+    twelve with most traps if there are more; with the screened plates in the folder `screened` if one is given."""
     done, failed = JobFolder(out).pages()
     if not done and not failed:
         raise PressError(Status.NO_PLATES, "no plates here, and no pages of press/all", out)
@@ -65,7 +63,17 @@ def write_sheet_of_all(out: str, asked: Sequence[int] = ()) -> None:
         f"press/proof --page K draws others.</p>")
     source = readable(read_table(done[chosen[0]])[0].pdf) if chosen else os.path.basename(out)
     head = note + table(["page", "", "samples changed", ""], (rows[page] for page in sorted(rows)))
-    write_sheet(os.path.join(out, SHEET), f"Proof of {source}", head, (part_of_page(done[page]) for page in chosen))
+    write_sheet(os.path.join(out, SHEET), f"Proof of {source}", head + trapped_pdf_text(out),
+                parts_with_dots({page: done[page] for page in chosen}, screened))
+
+
+def parts_with_dots(folders: Mapping[int, str], screened: str | None) -> Iterator[str]:
+    """The part of each page, by its number, and after it its screened plates, if there are any in the folder."""
+    reports = screened_reports(screened) if screened else {}
+    for number, folder in folders.items():
+        yield part_of_page(folder)
+        if screened and number in reports:
+            yield screened_text(folder, reports[number], screened)
 
 
 def write_part(folder: str) -> None:
@@ -164,42 +172,6 @@ def counted_in_grid(where: Array) -> Array:
     rows = numpy.add.reduceat(where, range(0, where.shape[0], DETAIL_HEIGHT), axis=0, dtype="i4")
     counts: Array = numpy.add.reduceat(rows, range(0, where.shape[1], DETAIL_WIDTH), axis=1)
     return counts
-
-
-# Pieces of HTML
-
-def data_uri(picture: Array, kind: str = "PNG") -> str:
-    """A picture as the address of itself."""
-    out = io.BytesIO()
-    how = {"quality": JPEG_QUALITY} if kind == "JPEG" else {"optimize": True}
-    Image.fromarray(numpy.ascontiguousarray(picture)).save(out, format=kind, **how)
-    return f"data:image/{kind.lower()};base64,{base64.b64encode(out.getvalue()).decode()}"
-
-
-def image(picture: Array, text: str) -> str:
-    """A picture of the sheet's width."""
-    return f'<img class="picture" src="{data_uri(picture)}" alt="{text}">'
-
-
-def table(heads: Sequence[str], rows: Iterable[Sequence[str | int]]) -> str:
-    """A table; numbers are on the right."""
-    lines = ["<table><tr>" + "".join(f"<th>{escaped(head)}</th>" for head in heads) + "</tr>"]
-    for row in rows:
-        cells = "".join(f'<td class="number">{one:,}</td>' if isinstance(one, int) else f"<td>{one}</td>"
-                        for one in row)
-        lines.append(f"<tr>{cells}</tr>")
-    return "\n".join(lines) + "</table>"
-
-
-def swatch(light: Light) -> str:
-    """A square of a colour."""
-    color = "#" + "".join(f"{part:02x}" for part in light)
-    return f'<span class="swatch" style="background:{color}"></span>'
-
-
-def long(text: str) -> str:
-    """A name or a line, which may be broken anywhere."""
-    return f'<span class="long">{escaped(text)}</span>'
 
 
 # The parts of a page's part

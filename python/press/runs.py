@@ -205,9 +205,9 @@ def run(path: str, out: str, settings: Settings = Settings(), pages: Sequence[in
             begin(job, given, source.count, settings, pages)
             todo = [PageWork(given, source, settings, book, job, list(found), number, silent) for number in numbers]
             ends = finish(given, todo, do_pages(todo, settings.jobs, tell), tell)
+            no_pdf = make_pdf(source, out, settings, observer) if settings.pdf and not is_one_of_many() else None
             if settings.proof and not is_one_of_many():
                 make_sheet(out, observer)
-            no_pdf = make_pdf(source, out, settings, observer) if settings.pdf and not is_one_of_many() else None
     result = RunResult(ends, tuple(findings), no_pdf)
     observer(RunDone(result.failed))
     return result

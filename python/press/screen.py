@@ -9,7 +9,9 @@ from .bilevel_tiff import Bilevel, write_bilevel
 from .command import PROJECT, version
 from .errors import UsageError
 from .files import folder_beside
+from .folder import TRAPPED
 from .inks import Ink
+from .job_record import digest_of
 from .names import readable
 from .output_report import coverage, file_figures, full_disk_refused, write_report
 from .plates import Array
@@ -87,7 +89,8 @@ def screen_page(page: TrappedPage, screens: Mapping[str, InkScreen], imaging: Im
         for one, plate in zip(screened, page.after.arrays):
             path = os.fsdecode(os.path.join(os.fsencode(ready), name + b"(" + one.ink.suffix + b").tif"))
             screen_plate(plate, one, imaging, path, scratch)
-            plates.append(figures_of(one, plate, path, imaging))
+            made_of = digest_of(page.folder.file(TRAPPED, f"{one.ink.name}.pgm"))
+            plates.append({**figures_of(one, plate, path, imaging), "plate_sha256": made_of})
         figures = {"page": page.number, "resolution": imaging.dpi, "plates_resolution": imaging.plate_dpi,
                    "negative": imaging.negative, "mirror": imaging.mirror, "beat_of_strong_inks": slowest,
                    "plates": plates}
