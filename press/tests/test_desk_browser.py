@@ -354,12 +354,11 @@ def test_a_zone_is_drawn_and_changed_by_keys_alone(desk):
               "return lng > x + 5 && lat > y + 5")
     page_map.send_keys(Keys.ENTER)
     desk.wait("return desk.app.page.edits.zones.length === 1")
-    corner = desk.browser.find_element(By.ID, "zone-0-0-0")
-    corner.clear()
-    corner.send_keys("10", Keys.TAB)
+    desk.browser.execute_script("const box = document.getElementById('zone-0-0-0'); box.focus(); box.select()")
+    ActionChains(desk.browser).send_keys("10", Keys.ENTER).perform()
     desk.wait("return Math.abs(desk.app.page.edits.zones[0].points[0][0] - 10 * 72 / 25.4) < 1")
     desk.settle()
-    page_map.send_keys(Keys.ENTER)
+    desk.browser.find_element(By.ID, "map").send_keys(Keys.ENTER)
     desk.wait("return document.getElementById('why').textContent.includes('Pixel')")
 
 

@@ -2,6 +2,7 @@
 """What preflight found on a page, with the places that it speaks of."""
 from __future__ import annotations
 
+import os
 import re
 from collections.abc import Iterable, Sequence
 from typing import Any
@@ -22,7 +23,8 @@ def findings_of(page: PageFolder, zones: Sequence[dict[str, Any]]) -> list[dict[
     pixels. `zones` are the job's zones as browsers get them."""
     found = []
     for line in read_text(page.path, WARNINGS).splitlines():
-        parts = LINE.fullmatch(line.strip())
+        # A browser need not know where the folder lies.
+        parts = LINE.fullmatch(line.strip().replace(f"{os.path.dirname(page.path)}{os.sep}", ""))
         if parts:
             level, kind, text = parts.groups()
             found.append({"level": level, "kind": kind, "text": text, "places": places_of(page, kind, text, zones)})

@@ -10,8 +10,6 @@ from dataclasses import dataclass, replace
 from pathlib import Path
 from typing import Any
 
-import trapping
-
 from press import folder as folders
 from press.files import whole_file
 from press.folder import PageFolder
@@ -150,8 +148,8 @@ class DeskPage:
             raise VersionConflict(f"version {version} was changed by another window; the newest is {self.version}")
 
     def _write(self, text: bytes) -> None:
-        """Puts a job into place, if the engine takes it."""
-        trapping.halo(text)
+        """Puts a job into place, if the engine takes it for this page, which one pixel tells."""
+        self.live.trapped(text, 0, 0, 1, 1)
         if not self.kept.has_record():
             self.kept.record_trapped(self.text)
         with whole_file(self.folder.file(folders.JOB)) as path:

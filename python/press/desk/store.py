@@ -110,7 +110,8 @@ class Store:
                 return listed(id_of(path), source.page, place.title, "done", "")
             except PressError as refused:
                 why = str(refused)
-        return listed("", number, "", "failed", why)
+        # A browser need not know where the folder lies.
+        return listed("", number, "", "failed", why.replace(f"{job}{os.sep}", ""))
 
     def place(self, key: str) -> Place:
         """Where a page lies."""
