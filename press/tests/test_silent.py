@@ -84,6 +84,30 @@ def test_inks_keep_their_numbers_under_a_press_profile(room: Room) -> None:
     assert len(samples(room / "with")) == 5
 
 
+def test_cmyk_with_a_profile_of_its_own(room: Room) -> None:
+    """Type, images and what DefaultCMYK covers are converted by a profile of their own; with --keep-cmyk they keep their numbers,
+    and gray and RGB with profiles are as they were."""
+    file = Pdf()
+    file.page("/Own cs 0 0 0 1 scn 0 0 10 10 re f 0 0 0 1 k 10 0 10 10 re f q 10 0 0 10 20 0 cm /Im Do Q /Rgb cs 0 0 0 scn 30 0 10 10 re f",
+              (40, 10), "/ColorSpace << /Own /DeviceCMYK >> /XObject << /Im "
+              f"{file.image('/Width 1 /Height 1 /BitsPerComponent 8 /ColorSpace /DeviceCMYK', bytes((0, 0, 0, 255)))} >>")
+    room.write("own.pdf", file.bytes())
+    with pikepdf.open(room / "own.pdf", allow_overwriting_input=True) as pdf:
+        own = pdf.make_indirect(pikepdf.Array([pikepdf.Name.ICCBased, pdf.make_stream(press_profile(), N=4)]))
+        rgb = pikepdf.Array([pikepdf.Name.ICCBased, pdf.make_stream(RGB_PROFILE.read_bytes(), N=3)])
+        resources = pdf.pages[0].obj.Resources
+        resources.ColorSpace = pikepdf.Dictionary(Own=own, DefaultCMYK=own, Rgb=rgb)
+        resources.XObject.Im.ColorSpace = own
+        pdf.save(room / "own.pdf")
+    for name, words in (("converted", []), ("kept", ["--keep-cmyk"])):
+        room.goes("plates", "own.pdf", name, "--dpi", "72", *words)
+    converted, kept = ({name: [data[-40 + at] for at in (5, 15, 25, 35)] for name, data in samples(room / folder).items()}
+                       for folder in ("converted", "kept"))
+    assert [kept[name][:3] for name in ("Cyan.pgm", "Magenta.pgm", "Yellow.pgm", "Black.pgm")] == [[255] * 3] * 3 + [[0] * 3]
+    assert all(converted["Black.pgm"][at] > 0 for at in range(3)), converted
+    assert [one[3] for one in converted.values()] == [one[3] for one in kept.values()]
+
+
 def test_other_colours_go_by_the_press_profile(room: Room) -> None:
     """RGB is separated by the press's profile: here gray into four inks of one tint."""
     file = Pdf()

@@ -12,6 +12,7 @@ from .errors import PressError, Status
 from .files import need_room
 from .inks import Look, Separation
 from .names import PROCESS, job_names
+from .own_profiles import write_plain
 from .plates import Array, Plates
 from .settings import Settings
 from .source import Source, complaint, ghostscript
@@ -48,9 +49,13 @@ def render(source: Source, page: int, settings: Settings, folder: str) -> Render
     words = ["-dBATCH", "-dPDFSTOPONERROR", "-sDEVICE=tiffsep", "-dMaxBitmap=0", f"-r{settings.dpi}",
              "-sCompression=none", "-dMaxSpots=60", "-dPrintSpotCMYK", f"-dFirstPage={page}", f"-dLastPage={page}",
              "-sOutputFile=page.tif", *BOX_OPTIONS[settings.box]]
-    link(source.pdf, folder, "in.pdf")
+    name = "plain.pdf" if settings.keep_cmyk else "in.pdf"
+    if settings.keep_cmyk:
+        write_plain(source.pdf, os.path.join(folder, name), source.path)
+    else:
+        link(source.pdf, folder, name)
     words += profile_words(settings.icc, folder)
-    done = ghostscript(folder, [*words, "in.pdf"], settings.time, source.place(page))
+    done = ghostscript(folder, [*words, name], settings.time, source.place(page))
     if done.returncode != 0:
         raise PressError(Status.PDF, f"Ghostscript cannot read it: {complaint(done)}", source.place(page))
     separations = separations_in(folder, done)

@@ -183,6 +183,7 @@ class Settings:
     box: str = "media"
     icc: str | None = None
     output_intent: bool = False
+    keep_cmyk: bool = False
     total_ink: float = 3.0
     time: int | None = None
     # Inks: NAME=DENSITY and NAME=KIND as given, and a table of inks.
@@ -288,6 +289,9 @@ def add_page_options(parser: argparse.ArgumentParser) -> None:
         help="the profile of the press, by which colours that are not inks are separated, and inks are drawn")
     add("--output-intent", action="store_true", default=None,
         help="takes the profile of the file's own output intent as --icc, if it has one")
+    add("--keep-cmyk", action="store_true", default=None,
+        help="keeps the numbers of CMYK colours that have a profile of their own; without it they are converted to the "
+             "inks of the press. CMYK without a profile keeps its numbers always")
     add("--total-ink", metavar="SHARE", type=total_of,
         help="the total ink above which preflight reports the place; the default is 300%%")
     add("-p", "--preset", metavar="NAME",

@@ -33,13 +33,17 @@ _exports: Dict[str, Callable[..., int]] = {}  # of those that were called
 
 
 def library_path() -> str:
-    """The file of the library: that of TRAP_LIBRARY in the environment, else the one in this package, else its name, which
-    the system looks up."""
+    """The file of the library: that of TRAP_LIBRARY in the environment; or else the one in this package, the one that
+    `make library` makes in the repository, or its name, which the system looks up."""
     given = os.environ.get("TRAP_LIBRARY")
     if given:
         return given
-    beside = os.path.join(os.path.dirname(os.path.abspath(__file__)), NAME)
-    return beside if os.path.exists(beside) else NAME
+    here = os.path.dirname(os.path.abspath(__file__))
+    repository = os.path.join(here, os.pardir, os.pardir, "library")
+    places = [os.path.join(here, NAME)]
+    if os.path.exists(os.path.join(repository, "trap.h")):
+        places.append(os.path.join(repository, "out", NAME))
+    return next((place for place in places if os.path.exists(place)), NAME)
 
 
 def _load() -> ctypes.CDLL:
