@@ -199,8 +199,8 @@ def fixture_repository(tmp_path_factory: pytest.TempPathFactory) -> Path:
     return place
 
 
-@pytest.fixture(name="desk_room")
-def fixture_desk_room(repository: Path, environment: dict[str, str], tmp_path: Path) -> Iterator["Reader"]:
+@pytest.fixture(name="reader")
+def fixture_reader(repository: Path, environment: dict[str, str], tmp_path: Path) -> Iterator["Reader"]:
     """A reader at the top of the repository, with nothing there that another document made."""
     before = set(os.listdir(repository))
     yield Reader(repository, tmp_path, {**environment, "TMPDIR": str(tmp_path), "PRESS_HOUSE": str(tmp_path)})
@@ -222,10 +222,10 @@ class Reader:
     def __init__(self, folder: Path, scratch: Path, environment: dict[str, str]) -> None:
         self.folder, self.scratch, self.environment = folder, scratch, environment
         self.place = folder
-        for end in ("inks", "zones", "2.zones"):
-            shutil.copy(folder / "examples" / "label" / f"label.{end}", folder)
-        for name in ("label.pdf", "book.pdf"):
-            shutil.copy(folder / "examples" / "label" / "label.pdf", folder / name)
+        for name in ("label", "book"):
+            for end in ("pdf", "inks", "zones", "2.zones"):
+                if (folder / "examples" / "label" / f"label.{end}").exists():
+                    shutil.copy(folder / "examples" / "label" / f"label.{end}", folder / f"{name}.{end}")
 
     def small(self, command: str) -> str:
         """A command by the rules above."""
@@ -280,11 +280,11 @@ def with_commands(names: list[str]) -> list[str]:
 @pytest.mark.slow
 @needs("gs", "mutool", "git", "make", "cc")
 @pytest.mark.parametrize("document", with_commands([*DOCUMENTS, *PAGES]))
-def test_commands_end_well(desk_room: Reader, built: None, document: str) -> None:
+def test_commands_end_well(reader: Reader, built: None, document: str) -> None:
     """Every command of a document ends with status 0, in the document's order."""
     if document == "docs/LIBRARY.md" and not Path("/usr/include/ghostscript/iapi.h").exists():
         pytest.skip("Ghostscript's library is not installed")
-    assert desk_room.reads(document)
+    assert reader.reads(document)
 
 
 # Programs
