@@ -5,7 +5,8 @@ examples' READMEs, and the examples of manual pages.
 Commands run at the top of a copy of the repository, in the order of their document. These rules make them small and safe:
 
 - label.pdf and book.pdf are the label of examples/label, and the inputs of SETUP are made of it;
-- press/all and press/plates render at 300 dpi, whatever they are told, and press/screen screens 144 dots of its film;
+- press/all and press/plates render at 300 dpi, whatever they are told, so a --part is half as large; press/screen screens at 600 dpi
+  and 40 lpi;
 - PREFIX is a folder of the test, `press NAME` is press/NAME, and a program is that of bin/;
 - what press/all, press/plates and press/farm make starts without an earlier result;
 - the commands of LEFT_OUT are not run, each for its reason.
@@ -26,7 +27,7 @@ from press import engine, job, pairs, plates, screen_table
 from press.inks import Ink, inks_of_file
 from room import TOP, needs
 
-DPI, FILM_DPI, FILM_LPI = "300", "144", "20"
+DPI, FILM_DPI, FILM_LPI = "300", "600", "40"
 LEFT_OUT = {
     r"apt install .*": "needs the administrator; test_packages_are_named looks at the names",
     r"\./test": "takes minutes, and runs these tests",
@@ -51,7 +52,7 @@ SETUP: dict[str, tuple[str, ...]] = {
     "docs/SCREENING.md": (*PAGE, "press/all label.pdf out"), "docs/OUTPUT.md": TIFFS, "man/press-plates.1": TIFFS,
     "man/press-look.1": PAGE, "man/trap.1": PLATES, "man/presscheck.1": PLATES, "man/trapset.1": PLATES, "man/trapsheet.1": PLATES,
     "man/trappool.1": (*PLATES, *(f"cp poster.job {name}; cp c.pgm {name}.c; cp m.pgm {name}.k" for name in ("prefix", "back")),
-                       "sed -i 's/Magenta/Black/;s/Yellow/White/;s/Black <<.*1.7/K << \\/NeutralDensity 1.7/' prefix back"),
+                       "grep -E '^(prefix|back) ' man/trappool.1 >list"),
     "examples/poster/README.md": ("examples/poster/run.sh",)}
 RENDERING = re.compile(r"press/(all|plates|farm) ")
 
@@ -236,6 +237,7 @@ class Reader:
             command = re.sub(r" --dpi \d+", "", command) + f" --dpi {DPI}"
         if command.startswith("press/screen "):
             command = re.sub(r" --(dpi|lpi) \d+", "", command) + f" --dpi {FILM_DPI} --lpi {FILM_LPI}"
+            command = re.sub(r"(?<=--part )[\d,]+", lambda part: ",".join(str(int(one) // 2) for one in part[0].split(",")), command)
         return command
 
     def clear(self, command: str) -> None:

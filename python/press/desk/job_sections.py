@@ -17,7 +17,7 @@ RULES = (TRIM, THIN, IMAGES)
 TAIL = (THIN, PAIR, IMAGES, END)
 """What comes after the owner's zones."""
 MARKS: Sequence[tuple[str, bytes]] = (
-    (OPTIONS, rb"% Trapping parameters that were told by words:"), (OWNER, rb"% From .*:"),
+    (OPTIONS, rb"% Trapping parameters (?:of options and presets|that were told by words):"), (OWNER, rb"% From .*:"),
     (PAGE, rb"% The whole page:"), (TRIM, rb"% The page within its \w+ box .*:"),
     (LAYER, rb"% The layer .* \(--layer\):"),
     (THIN, rb"% Thin strokes \(.*:"), (IMAGES, rb"% Within images nothing is trapped.*:"),
