@@ -25,7 +25,7 @@ from conftest import program_path
 from document_blocks import DOCUMENTS, JOB, PAGES, Block, blocks_of, every_block, fault_examples
 from press import engine, job, pairs, plates, screen_table
 from press.inks import Ink, inks_of_file
-from room import TOP, needs
+from room import TOP, needs, there
 
 DPI, FILM_DPI, FILM_LPI = "300", "600", "40"
 LEFT_OUT = {
@@ -53,6 +53,7 @@ SETUP: dict[str, tuple[str, ...]] = {
     "man/press-look.1": PAGE, "man/trap.1": PLATES, "man/presscheck.1": PLATES, "man/trapset.1": PLATES, "man/trapsheet.1": PLATES,
     "man/trappool.1": (*PLATES, *(f"cp poster.job {name}; cp c.pgm {name}.c; cp m.pgm {name}.k" for name in ("prefix", "back")),
                        "grep -E '^(prefix|back) ' man/trappool.1 >list"),
+    "docs/VERSIONS.md": tuple(f"mkdir -p {place}; cp label.pdf {place}/catalogue.pdf" for place in (".", "monday", "tuesday")),
     "examples/poster/README.md": ("examples/poster/run.sh",)}
 RENDERING = re.compile(r"press/(all|plates|farm) ")
 
@@ -68,7 +69,7 @@ def test_every_block_is_known() -> None:
     """Each block is of a kind that a test here runs, or is no input of a program: pictures, formulas, contracts, printed lines."""
     shown = [(block.document, block.text) for block in every_block() if block.kind == "other"]
     expected = {"README.md": "pub fn apply", "docs/DESIGN.md": "words  ", "docs/KEEPAWAY.md": "t'(p)", "docs/PLATES.md": "50 35",
-                "docs/TRAPPED_PDF.md": "press-pdf: "}
+                "docs/TRAPPED_PDF.md": "press-pdf: ", "docs/VERSIONS.md": "page 1: the same"}
     assert [document for document, text in shown if not text.startswith(expected.get(document, "\0"))] == []
 
 
@@ -233,25 +234,26 @@ class Reader:
         command = re.sub(r"^press ", "press/", command)
         command = re.sub(r"^(env )?(trap|trapset|trapsheet|trappool|traprun|presscheck) ", r"bin/\2 ", command)
         command = re.sub(r"PREFIX=\S+", f"PREFIX={self.scratch}/usr", command)
+        command = re.sub(r"(?<= )(--dpi|--lpi) \d+ ?", "", command) if re.match(r"press/(all|plates|screen) ", command) else command
         if re.match(r"press/(all|plates) ", command) and "--tiff" not in command:
-            command = re.sub(r" --dpi \d+", "", command) + f" --dpi {DPI}"
+            command = re.sub(r"^press/\w+", rf"\g<0> --dpi {DPI}", command)
         if command.startswith("press/screen "):
-            command = re.sub(r" --(dpi|lpi) \d+", "", command) + f" --dpi {FILM_DPI} --lpi {FILM_LPI}"
+            command = re.sub(r"^press/\w+", rf"\g<0> --dpi {FILM_DPI} --lpi {FILM_LPI}", command)
             command = re.sub(r"(?<=--part )[\d,]+", lambda part: ",".join(str(int(one) // 2) for one in part[0].split(",")), command)
         return command
 
     def clear(self, command: str) -> None:
         """Removes an earlier result of a command."""
         operands = [word for word in command.split() if not word.startswith("-")]
-        if RENDERING.match(command) and "--tiff" not in command and len(operands) > 2:
+        if RENDERING.match(command) and not re.search("--tiff|--only-changed", command) and len(operands) > 2:
             shutil.rmtree(self.place / operands[2], ignore_errors=True)
         elif "--tiff" in command:
             shutil.rmtree(self.place / "page", ignore_errors=True)
 
     def types(self, command: str) -> None:
         """Runs a command, which has to end well."""
+        self.clear(re.sub("^press ", "press/", command))
         command = self.small(command)
-        self.clear(command)
         if command.startswith("cd "):
             self.place = self.place / command[3:]
             return
@@ -286,6 +288,8 @@ def test_commands_end_well(reader: Reader, built: None, document: str) -> None:
     """Every command of a document ends with status 0, in the document's order."""
     if document == "docs/LIBRARY.md" and not Path("/usr/include/ghostscript/iapi.h").exists():
         pytest.skip("Ghostscript's library is not installed")
+    if document == "docs/JSON.md" and not there("jq"):
+        pytest.skip("jq is not installed")
     assert reader.reads(document)
 
 
