@@ -38,7 +38,7 @@ VERSION := $(shell cat VERSION)
 PROGRAMS := $(shell awk '!/^\#/ && NF { print $$1 }' programs.txt)
 # Each program as it is built or released.
 BUILT = $(if $(BIN),$(wildcard $(PROGRAMS:%=$(BIN)/%)),$(foreach one,$(PROGRAMS),$(shell tools/program --there $(one))))
-COMMANDS := preflight check plates trap tiff pdf screen look proof all compare desk farm farm.sbatch watch slurm-here press trapper
+COMMANDS := preflight check plates zones trap tiff pdf screen look proof all compare desk farm farm.sbatch watch slurm-here press trapper
 # The folders of the press room's Python package, and of the library's, by which the trap editor calls libtrap.
 PACKAGE := $(shell find python/press python/trapping -type d ! -name __pycache__)
 LIBRARY := library/out/libtrap.so.1 library/out/libtrap.a

@@ -7,9 +7,9 @@ from room import COMMANDS, TOP, Room
 
 pytestmark = [pytest.mark.quick, pytest.mark.plain]
 
-COMMAND_NAMES = ("plates", "trap", "tiff", "look", "all", "compare", "farm", "watch", "preflight", "proof", "slurm-here", "press")
+COMMAND_NAMES = ("plates", "zones", "trap", "tiff", "look", "all", "compare", "farm", "watch", "preflight", "proof", "slurm-here", "press")
 # A command line of each command that lacks nothing.
-COMPLETE = {"plates": ["two.pdf", "new"], "trap": ["two"], "tiff": ["two", "new"], "look": ["two", "new.png"], "all": ["two.pdf", "new"], "compare": ["two", "two"],
+COMPLETE = {"plates": ["two.pdf", "new"], "zones": ["two"], "trap": ["two"], "tiff": ["two", "new"], "look": ["two", "new.png"], "all": ["two.pdf", "new"], "compare": ["two", "two"],
             "farm": ["two.pdf", "new"], "watch": ["hot"], "preflight": ["two.pdf"], "proof": ["two"]}
 SEE = r" \(see press-{} --help\)"
 # Usage errors: the words, and how the line begins after the command's name.

@@ -49,7 +49,7 @@ TIFFS = (*PAGE, "press/tiff --untrapped --name all page tiffs", "cp 'tiffs/all(C
 PLATES = ("cp examples/poster/poster.job .", "cp poster.job sheet.job", "gzip -dc examples/poster/plates/Cyan.pgm.gz >c.pgm",
           "gzip -dc examples/poster/plates/Magenta.pgm.gz >m.pgm")
 SETUP: dict[str, tuple[str, ...]] = {
-    "docs/SCREENING.md": (*PAGE, "press/all label.pdf out"), "docs/OUTPUT.md": TIFFS, "man/press-plates.1": TIFFS,
+    "docs/SCREENING.md": (*PAGE, "press/all label.pdf out"), "docs/ZONES.md": PAGE, "man/press-zones.1": PAGE, "docs/OUTPUT.md": TIFFS, "man/press-plates.1": TIFFS,
     "man/press-look.1": PAGE, "man/trap.1": PLATES, "man/presscheck.1": PLATES, "man/trapset.1": PLATES, "man/trapsheet.1": PLATES,
     "man/trappool.1": (*PLATES, *(f"cp poster.job {name}; cp c.pgm {name}.c; cp m.pgm {name}.k" for name in ("prefix", "back")),
                        "grep -E '^(prefix|back) ' man/trappool.1 >list"),

@@ -210,7 +210,7 @@ def write_json(page: PageFolder, report: Report, made: str) -> None:
         text["check"] = {key: int(counted[key]) for key in ("radius", "before", "after") if key in counted}
     layout = read_layout(page)
     if layout:
-        text["layout"] = layout
+        text["layout"] = {key: value for key, value in layout.items() if key != "made_of"}
     with named(page.file(TRAPPED, JSON)), open(os.path.join(made, JSON), "w", encoding="utf-8") as file:
         json.dump(text, file, indent=1)
         file.write("\n")

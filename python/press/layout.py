@@ -21,6 +21,7 @@ from .inks import Ink
 from .job import Statement, read_all
 from .job_language import KEYS, SCALE, Parameters
 from .marks import above
+from .origins import Origins, origins_from
 from .pairs import pair_places, read_pairs
 from .plates import Plates
 from .rects import NOTHING, Rect, without
@@ -35,6 +36,8 @@ from .trace import Trace
 from .zones import IMAGES, LAYERS, OWNER, TRIM, Composed, Layer, Pair, Wanted, base_rule, compose, reach
 
 BIG = 255
+# The entry of zones.json that says what zones were made of.
+MADE_OF = "made_of"
 # So many holes are cut out of images in which no strokes are looked for.
 MOST_HOLES = 200
 # From this share of a page on it is warned that it is not trapped.
@@ -68,6 +71,7 @@ class Layout:
     strokes: Strokes | None = None
     coverage: tuple[tuple[str, float], ...] = ()
     total_ink: float = 0.0
+    origins: Origins | None = None
 
     def findings(self, page: int | None, resolution: int) -> Iterator[Finding]:
         """What the owner should know: what was given up, and strokes that are too thin for this resolution."""
@@ -101,6 +105,8 @@ class Layout:
                              "too_thin": one.too_thin, "thinnest_points": round(one.least, 3),
                              "places": [[round(width, 4), *(round(side, 3) for side in rect)]
                                         for width, rect in one.places]}
+        if self.origins:
+            found[MADE_OF] = self.origins.as_data()
         return found
 
     def write(self, path: str) -> None:
@@ -116,24 +122,26 @@ def lay_out(own: Sequence[Statement], info: PageInfo | None, trace: Trace | None
     size = info.size(settings.box) if info else (plates.width * 72 / plates.resolution,
                                                  plates.height * 72 / plates.resolution)
     within, box = trap_box(info, settings)
-    places, over = image_places(own, info, trace, settings)
+    origins = origins_from(own, info, trace, settings)
+    places, over = image_places(own, info, origins.trace(), settings)
     rule = base_rule(own)
     wanted = Wanted(size, within, box, tuple(layer_zones(info, trace, settings)), {},
                     tuple(pair_zones(plates, inks, rule, settings)), tuple(places), tuple(over), settings.only_zones)
     if not settings.thin_zones:
-        return finished(compose(own, wanted), None)
+        return finished(compose(own, wanted), None, origins)
     skip = [pixels_of(place, size, plates) for place in pictures_alone(places, over)]
     lines, parts = strokes_of(plates, inks, rule, skip)
     boxes = boxes_by_width(lines, stroke_rule(rule), plates.resolution)
     thin = {width: [points_of(one, plates) for one in some] for width, some in boxes.items()}
     composed = compose(own, replace(wanted, thin=thin))
-    return finished(composed, report_of(lines, parts, composed, plates, inks, rule, thin) if lines else None)
+    return finished(composed, report_of(lines, parts, composed, plates, inks, rule, thin) if lines else None,
+                    origins)
 
 
-def finished(composed: Composed, strokes: Strokes | None) -> Layout:
+def finished(composed: Composed, strokes: Strokes | None, origins: Origins) -> Layout:
     """The layout of composed zones."""
     untrapped = tuple(sorted(composed.untrapped.items()))
-    return Layout(tuple(composed.statements), tuple(composed.warnings), untrapped, strokes)
+    return Layout(tuple(composed.statements), tuple(composed.warnings), untrapped, strokes, origins=origins)
 
 
 # Boxes

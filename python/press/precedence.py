@@ -116,7 +116,8 @@ def option_values(settings: Settings) -> Iterator[tuple[str, Given, bool]]:
 
 
 def lost_lines(settings: Settings, statements: Sequence[Statement]) -> Iterator[str]:
-    """A line for each value that was given for a page and does not hold there, with the one that does."""
+    """A line for each value that was given for a page and does not hold there, with the one that does; of a zone's own
+    values, where they stand in the place of an option's."""
     files = [one for one in statements if one.path]
     whole = [one for one in files if not read(one.text).made]
     given: dict[str, list[Given]] = {}
@@ -132,7 +133,7 @@ def lost_lines(settings: Settings, statements: Sequence[Statement]) -> Iterator[
         yield from (f"{said(one)} gives way to {said(several[-1])}" for one in lost)
     for file in files:
         for key, one in entries_in(file) if file not in whole else ():
-            if key in given and not one.is_as(given[key][-1]):
+            if key in given and not given[key][-1].place and not one.is_as(given[key][-1]):
                 yield f"{said(given[key][-1])} gives way to {said(one)} in the zones of that file"
 
 
