@@ -242,3 +242,20 @@ def test_json_lines(room: Room) -> None:
     done = room.run("all", "--json", "none.pdf", "out")
     assert done.status == 4 and done.err == "press-all: none.pdf: No such file or directory\n"
     assert json.loads(done.out) == {"event": "refused", "status": 4, "place": "none.pdf", "text": "No such file or directory"}
+
+
+@pytest.mark.usefixtures("built")
+def test_trapped_pdf_by_the_record(room: Room) -> None:
+    """press/pdf takes the box and the profile of the record, and warns of a file with other bytes than the pages were made of."""
+    room.sample("cropped.pdf")
+    room.goes(*ALL, "--box", "crop", "cropped.pdf", "out")
+    assert "verified" in room.goes("pdf", "cropped.pdf", "trapped.pdf", "out").out
+    room.write("later.pdf", (room / "cropped.pdf").read_bytes() + b"% later\n")
+    line = r"later\.pdf: page 1 was made of other bytes than this file has \(SHA-256 [0-9a-f]{12}\.\. then, [0-9a-f]{12}\.\. now\)"
+    assert re.search(f"press-pdf: warning: {line}", room.goes("pdf", "later.pdf", "trapped.pdf", "out").err)
+    room.refused(10, rf"press-pdf: {line} \(--strict\)", "pdf", "--strict", "later.pdf", "trapped.pdf", "out")
+    part = record(room / "out/page-001")
+    part["pages"]["1"]["options"]["icc"] = "../none.icc"
+    (room / "out/page-001/job.json").write_text(json.dumps(part))
+    room.refused(4, r"press-pdf: none\.icc: page 1 was drawn by this profile, which is not there \(--icc names another\)", "pdf", "cropped.pdf",
+                 "trapped.pdf", "out")

@@ -112,8 +112,8 @@ def differences(a: str, b: str, untrapped: bool = False) -> Iterator[PageDiffere
     """Compares two folders of runs, or two pages, page by page."""
     pages = pages_in(a), pages_in(b)
     if len(pages[0]) == len(pages[1]) == 1:
-        (one,), (number, other) = pages[0].values(), next(iter(pages[1].items()))
-        yield compare_page(number, one, other, untrapped)
+        for (_, one), (number, other) in zip(pages[0].items(), pages[1].items()):
+            yield compare_page(number, one, other, untrapped)
         return
     for number in sorted({*pages[0], *pages[1]}):
         if number in pages[0] and number in pages[1]:

@@ -73,7 +73,7 @@ def claim(job: JobFolder, file: InputFile, count: int, settings: Settings, pages
             record.pop(DESK, None)
         is_same = file_of(record) == file
         if names and not is_same:
-            take_over(job, record, names, count)
+            take_over(job, names, count)
             if not settings.only_changed:
                 lapse(record)
         record[FILE] = vars(file).copy()
@@ -110,7 +110,7 @@ def names_in(job: JobFolder) -> set[str]:
     return names
 
 
-def take_over(job: JobFolder, record: Record, names: set[str], count: int) -> None:
+def take_over(job: JobFolder, names: set[str], count: int) -> None:
     """Removes from a folder what would be taken for the new file's, but for the pages that are made anew one by one."""
     for pages in job.pages(stale=True):
         for number in pages:

@@ -2,7 +2,7 @@
 """A trapped PDF: the pages of a PDF as they are, with the traps that were made of their plates on top, as one layer."""
 import io
 import os
-from collections.abc import Sequence
+from collections.abc import Iterator, Sequence
 from dataclasses import dataclass, field
 from typing import Any, BinaryIO
 
@@ -12,6 +12,7 @@ from .content import fonts_outside, intent_profile
 from .errors import PressError, Status
 from .files import scratch_folder
 from .icc import need_press_profile
+from .job_record import SHORT, digest_of
 from .output_report import full_disk_refused
 from .pdf_grid import box_of_plates, grid_matrix, inherited
 from .pdf_layer import Paint, add_trap_network, layer_of, put_on_page, traps_form
@@ -92,6 +93,16 @@ def fonts_line(page: pikepdf.Page, number: int) -> str | None:
         return None
     return (f"page {number}: the file does not embed {', '.join(names)}: a RIP that takes another face for it gets "
             f"traps that do not fit")
+
+
+def other_bytes(pages: Sequence[TrappedPage], path: str) -> Iterator[str]:
+    """A line for each page that was made of a file with other bytes, as its record says."""
+    made_of = {page.number: page.drawn.digest for page in pages if page.drawn.digest}
+    now = digest_of(path) if made_of else ""
+    for number, digest in made_of.items():
+        if digest != now:
+            yield (f"page {number} was made of other bytes than this file has (SHA-256 {digest[:SHORT]}.. then, "
+                   f"{now[:SHORT]}.. now)")
 
 
 def judge(pdf: pikepdf.Pdf, pages: Sequence[TrappedPage], settings: PdfSettings, result: PdfResult, path: str) -> None:
@@ -185,7 +196,12 @@ def prove(path: str, result: PdfResult, settings: PdfSettings, shown: str) -> No
     """Renders the file again, and refuses it if a byte of a trapped plate differs."""
     with scratch_folder() as scratch:
         profile = settings.icc
-        if settings.output_intent and not profile and intent_profile(path, os.path.join(scratch, "intent.icc")):
+        for done in result.pages:
+            if not profile and done.page.drawn.icc and not os.path.isfile(done.page.drawn.icc):
+                raise PressError(Status.INPUT, f"page {done.page.number} was drawn by this profile, which is not there "
+                                 f"(--icc names another)", done.page.drawn.icc)
+        by_intent = settings.output_intent or any(done.page.drawn.output_intent for done in result.pages)
+        if by_intent and not profile and intent_profile(path, os.path.join(scratch, "intent.icc")):
             profile = os.path.join(scratch, "intent.icc")
             need_press_profile(profile, f"{shown}: the profile of its output intent")
         different = verify(path, [expected_of(done, profile) for done in result.pages], os.path.dirname(path) or ".")

@@ -120,12 +120,11 @@ def settings_again(options: argparse.Namespace, chosen: Settings, out: str, page
         return chosen
     given = given_on(options, out)
     for page, one in zip(pages, recorded):
-        differs = next((name for name in given if one.get(name, usual(name)) != given[name]), None)
+        differs = next((name for name, value in given.items() if one.get(name, usual(name)) != value), None)
         if differs and not chosen.force:
-            was = one.get(differs, usual(differs))
-            raise UsageError(f"--{differs}: page {page} of {out} was made with {words_for(differs, was)}, and not with "
-                             f"{words_for(differs, given[differs])} (without it the recorded options are used; --force "
-                             f"makes the page with other ones)")
+            was, wanted = words_for(differs, one.get(differs, usual(differs))), words_for(differs, given[differs])
+            raise UsageError(f"--{differs}: page {page} of {out} was made with {was}, and not with {wanted} (without "
+                             f"it the recorded options are used; --force makes the page with other ones)")
     merged = [{**one, **given} for one in recorded]
     other = next((page for page, one in zip(pages, merged) if one != merged[0]), None)
     if other:

@@ -5,18 +5,19 @@ from dataclasses import dataclass
 
 from .errors import PressError, Status
 from .folder import PageFolder
-from .job_record import page_of, read_record
+from .job_record import OPTIONS, page_of, read_record
 from .plates import Plates
 
 
 @dataclass(frozen=True)
 class Drawn:
-    """How the page was drawn, so far as its folder records it: the box, the digest of the file, and the press's
-    profile."""
+    """How the page was drawn, so far as its folder records it: the box, the digest of the file, the press's profile,
+    and whether the file's own output intent was taken for that."""
 
     box: str | None = None
     digest: str | None = None
     icc: str | None = None
+    output_intent: bool = False
 
 
 @dataclass(frozen=True)
@@ -51,8 +52,9 @@ def how_drawn(folder: str, number: int) -> Drawn:
         page = page_of(read_record(place), number)
         if not page:
             continue
-        box, icc = page.get("box", {}).get("name"), page.get("options", {}).get("icc")
-        return Drawn(box, page.get("sha256"), os.path.relpath(os.path.join(out, icc)) if icc else None)
+        box, options = page.get("box", {}).get("name"), page.get(OPTIONS, {})
+        icc = os.path.relpath(os.path.join(out, options["icc"])) if "icc" in options else None
+        return Drawn(box, page.get("sha256"), icc, "output-intent" in options)
     return Drawn()
 
 
