@@ -21,7 +21,7 @@ from press.files import need_folder, table_lines
 from press.picture import need_profile
 
 from .guard import LOOPBACK, allowed_hosts
-from .server import application
+from .server import LEAFLET, application
 from .store import Store
 
 USUAL_PORT = 8631
@@ -140,6 +140,8 @@ def serve(folder: str, where: Where, how: How, say: Callable[[str], None]) -> No
     need_folder(folder)
     if not os.access(folder, os.W_OK):
         raise PressError(Status.OUTPUT, "cannot be written to", folder)
+    if not LEAFLET.is_dir():
+        raise PressError(Status.NO_TOOL, "Leaflet is not there (Debian: apt install libjs-leaflet)")
     if how.profile:
         need_profile(how.profile)
     find_library()

@@ -33,7 +33,7 @@ export class PageView {
     /** @type {{key: string, pixels: Uint32Array}} */ this.base = { key: '', pixels: new Uint32Array(0) };
     /** @type {{total: number, bytes: number}[]} */ this.times = [];
     /** @type {any} */ this.live = null;
-    this.map = L.map(element, { crs: CRS, minZoom: -8, maxZoom: CLOSEST, zoomSnap: 0.25, fadeAnimation: false, zoomAnimation: false, attributionControl: false,
+    this.map = L.map(element, { crs: CRS, minZoom: -8, maxZoom: CLOSEST, fadeAnimation: false, zoomAnimation: false, attributionControl: false,
       zoomControl: false, keyboardPanDelta: 120 });
     this.map.createPane('live').style.zIndex = '300';
     this.marks = L.layerGroup().addTo(this.map);
