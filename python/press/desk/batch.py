@@ -72,7 +72,7 @@ class Batch:
         raise BadRequest("it was not trapped in time")
 
     def close(self) -> None:
-        """Stops after the page that is at work."""
+        """Stops before the next page."""
         self.stopped.set()
         if self.thread:
             self.thread.join(2)

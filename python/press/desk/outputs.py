@@ -1,6 +1,6 @@
 # SPDX-License-Identifier: Apache-2.0
-"""Files that browsers fetch: what lies in a page's folder, and what the press commands make of it on demand, each as a
-child with limits of memory and time."""
+"""Files that browsers fetch: what is in a page's folder, and what the press commands write on demand, each in a child
+process with limits of memory and time."""
 from __future__ import annotations
 
 import contextlib

@@ -148,7 +148,7 @@ class DeskPage:
             raise VersionConflict(f"version {version} was changed by another window; the newest is {self.version}")
 
     def _write(self, text: bytes) -> None:
-        """Puts a job into place, if the engine takes it for this page, which one pixel tells."""
+        """Writes a job, if the engine accepts it for this page: one pixel is trapped by it."""
         self.live.trapped(text, 0, 0, 1, 1)
         if not self.kept.has_record():
             self.kept.record_trapped(self.text)

@@ -229,7 +229,7 @@ def with_waiting(sent: QueuedJob, pages: list[dict[str, Any]]) -> list[dict[str,
 
 
 def source_of(job: Path, name: bytes) -> Path | None:
-    """The file that a job's pages were made of, if it lies in the job's folder or beside it and is still that file."""
+    """The original of a job's pages, if it is in the job's folder or next to that, and unchanged."""
     wanted = file_in(job)
     for folder in (job, job.parent):
         path = folder / os.fsdecode(name)
