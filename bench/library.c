@@ -16,7 +16,7 @@ struct band {
   struct planes window;
   struct trap_place place;
   trap_status status;
-  uint8_t text[TRAP_TEXT_SIZE];
+  char text[LIBTRAP_TEXT_SIZE];
   size_t text_len;
 };
 
@@ -29,7 +29,7 @@ static double seconds(clockid_t which) {
 static void *trap_band(void *of) {
   struct band *band = of;
   struct planes *p = &band->window;
-  band->status = trap_window8(band->job->at, band->job->size, (const uint8_t *)band->names, strlen(band->names), p->samples, p->count,
+  band->status = trap_window8(band->job->at, band->job->size, band->names, strlen(band->names), p->samples, p->count,
                               p->width, p->height, p->width, p->maxval, &band->place, band->text, sizeof band->text, &band->text_len);
   return 0;
 }
@@ -51,26 +51,26 @@ static trap_status trap_bands(struct band *bands, int count) {
     if (pthread_create(&threads[k], 0, trap_band, &bands[k])) stop("threads", "could not be started");
   for (int k = 0; k < count; k++) pthread_join(threads[k], 0);
   for (int k = 0; k < count; k++)
-    if (bands[k].status != TRAP_DONE) return fwrite(bands[k].text, 1, bands[k].text_len, stderr), bands[k].status;
-  return TRAP_DONE;
+    if (bands[k].status != LIBTRAP_DONE) return fwrite(bands[k].text, 1, bands[k].text_len, stderr), bands[k].status;
+  return LIBTRAP_DONE;
 }
 
 int main(int count, char **words) {
   static struct band bands[MOST_BANDS];
-  static uint8_t text[TRAP_TEXT_SIZE];
+  static char text[LIBTRAP_TEXT_SIZE];
   size_t text_len = 0;
   int asked = count > 3 ? atoi(words[1]) : -1, plates = count - 3;
-  if (asked < 0 || asked > MOST_BANDS || plates > TRAP_MOST_PLANES) return fprintf(stderr, "usage: library BANDS JOB NAME:IN: ..\n"), 2;
+  if (asked < 0 || asked > MOST_BANDS || plates > LIBTRAP_MOST_PLANES) return fprintf(stderr, "usage: library BANDS JOB NAME:IN: ..\n"), 2;
   struct planes page = {.bytes_each = 1};
   struct bytes job = whole(words[2]);
-  char *outs[TRAP_MOST_PLANES], *named[TRAP_MOST_PLANES], names[TRAP_MOST_PLANES * 65 + 1];
+  char *outs[LIBTRAP_MOST_PLANES], *named[LIBTRAP_MOST_PLANES], names[LIBTRAP_MOST_PLANES * 65 + 1];
   read_plates(&page, plates, words + 3, names, named, outs);
   unsigned halo = 0;
   if (trap_halo(job.at, job.size, &halo, text, sizeof text, &text_len)) return fwrite(text, 1, text_len, stderr), 1;
   for (int k = 0; k < asked; k++) bands[k].job = &job, bands[k].names = names, cut(&bands[k], &page, plates, k, asked, halo);
   double from = seconds(CLOCK_MONOTONIC), worked = seconds(CLOCK_PROCESS_CPUTIME_ID);
   trap_status status = asked ? trap_bands(bands, asked)
-                             : trap_planes8(job.at, job.size, (const uint8_t *)names, strlen(names), page.samples, page.count, page.width,
+                             : trap_planes8(job.at, job.size, names, strlen(names), page.samples, page.count, page.width,
                                             page.height, page.width, page.maxval, text, sizeof text, &text_len);
   printf("%.3f %.3f\n", seconds(CLOCK_MONOTONIC) - from, seconds(CLOCK_PROCESS_CPUTIME_ID) - worked);
   return status;

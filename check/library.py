@@ -349,6 +349,15 @@ def window_by_package(call, stands):
     return Answer(0, told.text, list(stack))
 
 
+def refuses_empty_core(call, stands):
+    """Whether the package refuses an empty core, for which the library traps nothing."""
+    try:
+        window_by_package(call, stands)
+    except ValueError:
+        return True
+    return False
+
+
 def halo_faults(sheet):
     """What differs of the call that tells the halo."""
     try:
@@ -372,7 +381,10 @@ def window_faults(sheet, rng, kinds):
     kinds["window: %s" % (answer.text.strip() if answer.status == 2 else "status %d" % answer.status)] += 1
     if not is_right(call, answer, stands):
         yield "the export of a window", answer
-    if unfit(call) is None and window_by_package(call, stands) != answer:
+    if not stands.core_width or not stands.core_height:
+        if not refuses_empty_core(call, stands):
+            yield "trap_window, which takes an empty core,", answer
+    elif unfit(call) is None and window_by_package(call, stands) != answer:
         yield "trap_window", answer
 
 
@@ -430,11 +442,11 @@ def version_faults():
     with open(os.path.join(TOP, "VERSION"), encoding="ascii") as file:
         numbers = tuple(int(word) for word in file.read().strip().split("."))
     with open(os.path.join(TOP, "library", "trap.h"), encoding="ascii") as file:
-        told = int(re.search(r"^#define TRAP_VERSION (\d+)", file.read(), re.M)[1])
+        told = int(re.search(r"^#define LIBTRAP_VERSION (\d+)", file.read(), re.M)[1])
     if trapping.library_version() != numbers:
         yield "trap_version"
     if (told // 10000, told // 100 % 100, told % 100) != numbers:
-        yield "TRAP_VERSION"
+        yield "LIBTRAP_VERSION"
 
 
 def main(count, seed):

@@ -34,11 +34,22 @@ bare() {
   echo "library: it asks for ${wanted// /, } alone, and keeps nothing"
 }
 
+# What others see of the library: the exports alone, in the archive too. And its tables of addresses cannot be written once it is loaded.
+closed() {
+  local found
+  found=$(nm -g --defined-only "$library/libtrap.a" | awk 'NF == 3 && $3 !~ /^trap_/ { print $3 }')
+  [ -z "$found" ] || { echo "check/library.sh: libtrap.a has other global names: $found" >&2; return 1; }
+  found=$(readelf -dlW "$library/libtrap.so.1" | grep -cE 'BIND_NOW|GNU_RELRO')
+  [ "$found" -ge 2 ] || { echo "check/library.sh: libtrap.so.1 is not linked with -z relro and -z now" >&2; return 1; }
+  echo "library: its global names are the exports, and its tables are read-only"
+}
+
 # compiled NAME WORD ..: a program of this folder, against the header.
 compiled() { "$CC" -std=c99 -O2 -g -Wall -Wextra -Werror -I"$top/library" -o "$out/$1" "$here/library/$1.c" "${@:2}"; }
 
 python3 -B "$here/library/boundary.py"
 if there nm && there size; then bare; else skip "what the library asks for" "there is no nm"; fi
+if there nm && there readelf && there objcopy; then closed; else skip "what others see of the library" "there is no readelf or objcopy"; fi
 python3 -B "$here/library.py" "$1" "$2"
 if python3 -c 'import numpy' 2>/dev/null; then
   TRAP_LIBRARY=$library/libtrap.so.1 python3 -B "$here/library/arrays.py"

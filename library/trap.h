@@ -7,8 +7,8 @@
  *
  * C99 or C++98, x86-64 with SSE4.2, Linux.
  */
-#ifndef TRAP_H
-#define TRAP_H
+#ifndef LIBTRAP_H
+#define LIBTRAP_H
 
 #include <stddef.h>
 #include <stdint.h>
@@ -17,27 +17,28 @@
 extern "C" {
 #endif
 
-/* What a call returns. The numbers are the exit statuses of the program trap. */
-#define TRAP_DONE 0   /* the planes are trapped, and the text is the report */
-#define TRAP_CALL 2   /* an argument is wrong: "call: Names", "Sides", "Step", "Maxval", "Samples" or "Place", the first */
-#define TRAP_JOB 3    /* the job has a fault, or lacks the details of a plane's colorant */
-#define TRAP_PAGE 4   /* a sample is above the maxval, the planes do not form a page, or a zone is too far from a window */
-#define TRAP_MEMORY 7 /* malloc returned null: "out of memory" */
+/* What a call returns. The numbers are the exit statuses of the program trap. Names of constants begin with LIBTRAP_, since
+ * <signal.h> has TRAP_ names of its own. */
+#define LIBTRAP_DONE 0   /* the planes are trapped, and the text is the report */
+#define LIBTRAP_CALL 2   /* an argument is wrong: "call: Names", "Sides", "Step", "Maxval", "Samples" or "Place", the first */
+#define LIBTRAP_JOB 3    /* the job has a fault, or lacks the details of a plane's colorant */
+#define LIBTRAP_PAGE 4   /* a sample is above the maxval, the planes do not form a page, or a zone is too far from a window */
+#define LIBTRAP_MEMORY 7 /* malloc returned null: "out of memory" */
 
 /* The type of a status; the functions return one byte. */
 typedef uint8_t trap_status;
 
 /* A buffer of this size holds every report and every error line: a report has a line for each of at most 251 zones and 16
  * planes. */
-#define TRAP_TEXT_SIZE 16384
+#define LIBTRAP_TEXT_SIZE 16384
 
 /* The version of this header; trap_version() returns that of the library. */
-#define TRAP_VERSION 900 /* 0.9.0: 10,000 times the first number, 100 times the second, and the third */
+#define LIBTRAP_VERSION 900 /* 0.9.0: 10,000 times the first number, 100 times the second, and the third */
 
-#define TRAP_MOST_PLANES 16
-#define TRAP_MOST_SIDE 16384
-#define TRAP_MOST_SAMPLES 160000000 /* width * height of one plane; all planes of a page together too, see docs/LIBRARY.md */
-#define TRAP_MOST_SHEET_SIDE 262144
+#define LIBTRAP_MOST_PLANES 16
+#define LIBTRAP_MOST_SIDE 16384
+#define LIBTRAP_MOST_SAMPLES 160000000 /* width * height of one plane; all planes of a page together too, see docs/LIBRARY.md */
+#define LIBTRAP_MOST_SHEET_SIDE 262144
 
 /* trap_planes8, trap_planes16: trap the planes of a page, of samples of one byte or of two in the machine's order.
  *
@@ -57,7 +58,7 @@ typedef uint8_t trap_status;
  *                       fits is written; the rest of the buffer is not changed.
  *   text_len            is set to the full length of that text in bytes, above text_size if it did not fit.
  *
- * Returns TRAP_DONE, and the samples are those that the trapping rule gives; or another status, and no sample is changed.
+ * Returns LIBTRAP_DONE, and the samples are those that the trapping rule gives; or another status, and no sample is changed.
  *
  * What the caller must ensure, and nothing checks:
  *   - No pointer is null, even where its size is 0. Each points to as many elements as the size after it says, aligned for them.
@@ -67,15 +68,15 @@ typedef uint8_t trap_status;
  *   - The call is not made from a signal handler, nor in a forked child of a program with threads.
  *   - The calling thread has 64 KB of stack left.
  */
-trap_status trap_planes8(const uint8_t *job, size_t job_size, const uint8_t *names, size_t names_size,
+trap_status trap_planes8(const char *job, size_t job_size, const char *names, size_t names_size,
                          uint8_t *samples, size_t sample_count,
                          uint32_t width, uint32_t height, uint32_t step, uint32_t maxval,
-                         uint8_t *text, size_t text_size, size_t *text_len);
+                         char *text, size_t text_size, size_t *text_len);
 
-trap_status trap_planes16(const uint8_t *job, size_t job_size, const uint8_t *names, size_t names_size,
+trap_status trap_planes16(const char *job, size_t job_size, const char *names, size_t names_size,
                           uint16_t *samples, size_t sample_count,
                           uint32_t width, uint32_t height, uint32_t step, uint32_t maxval,
-                          uint8_t *text, size_t text_size, size_t *text_len);
+                          char *text, size_t text_size, size_t *text_len);
 
 /* The place of a window on its sheet, and of its core in the window, in samples: columns from the left, rows from the top,
  * counted from 0. */
@@ -92,11 +93,11 @@ struct trap_place {
  *   halo                is set to that number: how far the job's widest trap reaches, rounded up to whole samples, and 1 at least.
  *   text, text_size, text_len   as above. The text is empty, or the error line.
  *
- * Returns TRAP_DONE; or TRAP_JOB or TRAP_MEMORY, and *halo is not changed. A number above 128 is returned only for a job whose
+ * Returns LIBTRAP_DONE; or LIBTRAP_JOB or LIBTRAP_MEMORY, and *halo is not changed. A number above 128 is returned only for a job whose
  * traps reach too far for any page; the call of a window then fails.
  */
-trap_status trap_halo(const uint8_t *job, size_t job_size, uint32_t *halo,
-                      uint8_t *text, size_t text_size, size_t *text_len);
+trap_status trap_halo(const char *job, size_t job_size, uint32_t *halo,
+                      char *text, size_t text_size, size_t *text_len);
 
 /* trap_window8, trap_window16: trap the core of a window of a sheet, in place.
  *
@@ -110,29 +111,51 @@ trap_status trap_halo(const uint8_t *job, size_t job_size, uint32_t *halo,
  *
  * A core without rows or columns traps nothing.
  *
- * Returns TRAP_DONE, and each sample of the core is what the trapping rule gives for the whole sheet, whatever lies beyond the
+ * Returns LIBTRAP_DONE, and each sample of the core is what the trapping rule gives for the whole sheet, whatever lies beyond the
  * window; all other samples are unchanged. The text is the core's part of the report: its line "page" has the sheet's sides, and
  * the counts of cores that tile a sheet add up to those of the sheet. Otherwise it returns another status, and no sample is
- * changed; "sheet: Far in zone 1" (TRAP_PAGE) means that the zone has a vertex more than a million points from the window's lower
+ * changed; "sheet: Far in zone 1" (LIBTRAP_PAGE) means that the zone has a vertex more than a million points from the window's lower
  * left corner, in x or in y.
  *
  * The halo must have untrapped samples: if windows of one raster overlap, copy what a window needs before you trap a neighbour,
  * as examples/library/bands.c does.
  */
-trap_status trap_window8(const uint8_t *job, size_t job_size, const uint8_t *names, size_t names_size,
+trap_status trap_window8(const char *job, size_t job_size, const char *names, size_t names_size,
                          uint8_t *samples, size_t sample_count,
                          uint32_t width, uint32_t height, uint32_t step, uint32_t maxval,
                          const struct trap_place *place,
-                         uint8_t *text, size_t text_size, size_t *text_len);
+                         char *text, size_t text_size, size_t *text_len);
 
-trap_status trap_window16(const uint8_t *job, size_t job_size, const uint8_t *names, size_t names_size,
+trap_status trap_window16(const char *job, size_t job_size, const char *names, size_t names_size,
                           uint16_t *samples, size_t sample_count,
                           uint32_t width, uint32_t height, uint32_t step, uint32_t maxval,
                           const struct trap_place *place,
-                          uint8_t *text, size_t text_size, size_t *text_len);
+                          char *text, size_t text_size, size_t *text_len);
 
-/* The version of the library, as TRAP_VERSION has that of the header. */
+/* The version of the library, as LIBTRAP_VERSION has that of the header. */
 uint32_t trap_version(void);
+
+/* What a status means, in a few words; the text of a call says more. */
+static inline const char *trap_strerror(trap_status status) {
+  switch (status) {
+    case LIBTRAP_DONE: return "done";
+    case LIBTRAP_CALL: return "an argument is wrong";
+    case LIBTRAP_JOB: return "the job has a fault";
+    case LIBTRAP_PAGE: return "the planes or the zones are not valid";
+    case LIBTRAP_MEMORY: return "out of memory";
+    default: return "unknown status";
+  }
+}
+
+/* Whether this processor has the instructions that the library uses. On one that has not, each other call ends the program with
+ * SIGILL. */
+static inline int trap_cpu_supported(void) {
+#if defined(__GNUC__) && defined(__x86_64__)
+  return __builtin_cpu_supports("sse4.2") != 0;
+#else
+  return 0;
+#endif
+}
 
 #ifdef __cplusplus
 }

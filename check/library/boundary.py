@@ -25,7 +25,7 @@ from trapping import _library  # noqa: E402
 # What C has for each type of an export: one or two arguments. `{}` stands for the argument's name.
 IN_C: Dict[str, Tuple[str, ...]] = {
     "Global": (),
-    "&[u8]": ("const uint8_t *{}", "size_t {}_size"),
+    "&[u8]": ("const char *{}", "size_t {}_size"),
     "&mut [u8]": ("uint8_t *{}", "size_t {}_size"),
     "&mut [u16]": ("uint16_t *{}", "size_t {}_size"),
     "u32": ("uint32_t {}",),
@@ -35,7 +35,8 @@ IN_C: Dict[str, Tuple[str, ...]] = {
 }
 # What ctypes may have for each argument of C, by its type.
 IN_PYTHON: Dict[str, Tuple[object, ...]] = {
-    "const uint8_t *": (ctypes.c_char_p, ctypes.c_void_p),
+    "const char *": (ctypes.c_char_p, ctypes.c_void_p),
+    "char *": (ctypes.c_void_p,),
     "uint8_t *": (ctypes.c_void_p,),
     "uint16_t *": (ctypes.c_void_p,),
     "size_t ": (ctypes.c_size_t,),
@@ -63,6 +64,8 @@ def in_words(text: str) -> str:
 
 def in_c(name: str, kind: str) -> List[str]:
     """The arguments that C has for one of an export."""
+    if (name, kind) == ("text", "&mut [u8]"):
+        return ["char *text", "size_t text_size"]
     given = [form.format(name) for form in IN_C[kind]]
     return [one.replace("samples_size", "sample_count") for one in given]
 
@@ -161,8 +164,8 @@ def main() -> int:
     fields = [name for name, _ in _library.Place._fields_]
     if not place_of_crate() == place_of_header() == fields:
         faults.append(f"Place is {place_of_crate()} in the crate, {place_of_header()} in trap.h, {fields} in Python")
-    if f"#define TRAP_VERSION {version_of_crate()} " not in (TOP / "library/trap.h").read_text(encoding="utf-8"):
-        faults.append(f"trap.h has another TRAP_VERSION than {version_of_crate()}, which trap_version answers")
+    if f"#define LIBTRAP_VERSION {version_of_crate()} " not in (TOP / "library/trap.h").read_text(encoding="utf-8"):
+        faults.append(f"trap.h has another LIBTRAP_VERSION than {version_of_crate()}, which trap_version answers")
     for fault in faults:
         print(f"check/library/boundary.py: {fault}", file=sys.stderr)
     if not faults:

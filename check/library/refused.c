@@ -1,5 +1,5 @@
 /* SPDX-License-Identifier: Apache-2.0 */
-/* refused: traps a small page, and then a window, with each request for memory refused in turn. Each call has to answer TRAP_MEMORY, say so and leave the
+/* refused: traps a small page, and then a window, with each request for memory refused in turn. Each call has to answer LIBTRAP_MEMORY, say so and leave the
  * samples as they were, until one has all that it asks for; and what was taken is always given back. It is linked with
  * --wrap=malloc, --wrap=realloc and --wrap=free. */
 #include <stdio.h>
@@ -45,18 +45,18 @@ static const char job[] =
 /* 0 where the call is as it has to be after the refusal of one request, 1 where it went through, 2 where it is wrong. */
 static int judged(const uint16_t *before) {
   uint16_t samples[SAMPLES];
-  static uint8_t text[TRAP_TEXT_SIZE];
+  static char text[LIBTRAP_TEXT_SIZE];
   size_t text_len = 0;
   memcpy(samples, before, sizeof samples);
   asked = held = 0;
-  const uint8_t *told = (const uint8_t *)job, *names = (const uint8_t *)"Cyan\nMagenta";
+  const char *told = job, *names = "Cyan\nMagenta";
   trap_status status = place ? trap_window16(told, sizeof job - 1, names, 12, samples, SAMPLES, WIDTH, HEIGHT, WIDTH, 255, place, text,
                                              sizeof text, &text_len)
                              : trap_planes16(told, sizeof job - 1, names, 12, samples, SAMPLES, WIDTH, HEIGHT, WIDTH, 255, text,
                                              sizeof text, &text_len);
   if (held) return printf("request %ld refused: %ld blocks were not given back\n", refused, held), 2;
-  if (status == TRAP_DONE) return asked == refused && memcmp(samples, before, sizeof samples) ? 1 : 2;
-  int is_right = status == TRAP_MEMORY && text_len == 14 && !memcmp(text, "out of memory\n", 14) && !memcmp(samples, before, sizeof samples);
+  if (status == LIBTRAP_DONE) return asked == refused && memcmp(samples, before, sizeof samples) ? 1 : 2;
+  int is_right = status == LIBTRAP_MEMORY && text_len == 14 && !memcmp(text, "out of memory\n", 14) && !memcmp(samples, before, sizeof samples);
   if (!is_right) printf("request %ld refused: status %d, %.*s\n", refused, status, (int)text_len, text);
   return is_right ? 0 : 2;
 }

@@ -9,11 +9,12 @@
 
 #include "trap.h"
 
-enum { WIDTH = 96, HEIGHT = 64, PLANES = TRAP_MOST_PLANES, SAMPLES = PLANES * WIDTH * HEIGHT, STACK = 65536, ZONES = 60 };
+enum { WIDTH = 96, HEIGHT = 64, PLANES = LIBTRAP_MOST_PLANES, SAMPLES = PLANES * WIDTH * HEIGHT, STACK = 65536, ZONES = 60 };
 
 /* The job has a detail for each plane and ZONES squares, each its own zone. */
 static char job[16384], names[256];
-static uint8_t bytes[SAMPLES], text[TRAP_TEXT_SIZE];
+static uint8_t bytes[SAMPLES];
+static char text[LIBTRAP_TEXT_SIZE];
 static uint16_t words[SAMPLES];
 static const struct trap_place place = {WIDTH, HEIGHT, 0, 0, 0, 0, WIDTH, HEIGHT};
 
@@ -40,15 +41,15 @@ static void draw(void) {
 
 static void want(const char *call, trap_status status, trap_status wanted) {
   if (status == wanted) return;
-  printf("stack: %s answers %d, and not %d: %.200s\n", call, status, wanted, (const char *)text);
+  printf("stack: %s answers %d, and not %d: %.200s\n", call, status, wanted, text);
   exit(1);
 }
 
 /* All exports, with so many bytes of the job; cut short it has a fault. */
 static void *call_all(void *given) {
   size_t size = *(size_t *)given, count = strlen(names), len;
-  const uint8_t *told = (const uint8_t *)job, *listed = (const uint8_t *)names;
-  trap_status wanted = size == strlen(job) ? TRAP_DONE : TRAP_JOB;
+  const char *told = job, *listed = names;
+  trap_status wanted = size == strlen(job) ? LIBTRAP_DONE : LIBTRAP_JOB;
   uint32_t halo;
   draw();
   want("trap_planes8", trap_planes8(told, size, listed, count, bytes, SAMPLES, WIDTH, HEIGHT, WIDTH, 255, text, sizeof text, &len),
@@ -60,7 +61,9 @@ static void *call_all(void *given) {
   want("trap_window16",
        trap_window16(told, size, listed, count, words, SAMPLES, WIDTH, HEIGHT, WIDTH, 255, &place, text, sizeof text, &len), wanted);
   want("trap_halo", trap_halo(told, size, &halo, text, sizeof text, &len), wanted);
-  want("trap_version", trap_version() == TRAP_VERSION ? TRAP_DONE : TRAP_CALL, TRAP_DONE);
+  want("trap_version", trap_version() == LIBTRAP_VERSION ? LIBTRAP_DONE : LIBTRAP_CALL, LIBTRAP_DONE);
+  want("trap_cpu_supported", trap_cpu_supported() ? LIBTRAP_DONE : LIBTRAP_CALL, LIBTRAP_DONE);
+  want("trap_strerror", strcmp(trap_strerror(LIBTRAP_MEMORY), "out of memory") ? LIBTRAP_CALL : LIBTRAP_DONE, LIBTRAP_DONE);
   return NULL;
 }
 

@@ -21,7 +21,7 @@ struct answer {
   trap_status status;
   uint16_t samples[SAMPLES];
   size_t text_len;
-  uint8_t text[1024];
+  char text[1024];
 };
 
 static struct answer alone[MOST_PAGES], together[MOST_PAGES];
@@ -36,7 +36,7 @@ static void draw(uint16_t *samples, unsigned page) {
   }
 }
 
-static const uint8_t *const told = (const uint8_t *)job, *const listed = (const uint8_t *)names;
+static const char *const told = job, *const listed = names;
 
 static trap_status by_words(struct answer *answer, const struct trap_place *place) {
   if (!place)

@@ -14,7 +14,7 @@ enum { THREADS = 4, ROWS = 37, MOST_ZONES = 251 };
 
 /* What the reports of all bands count together. */
 struct sums {
-  unsigned long long samples[MOST_ZONES], changed[MOST_ZONES], edges, plates[TRAP_MOST_PLANES];
+  unsigned long long samples[MOST_ZONES], changed[MOST_ZONES], edges, plates[LIBTRAP_MOST_PLANES];
   int zones;
 };
 
@@ -32,7 +32,7 @@ struct share {
   const struct work *work;
   int first;
   trap_status status;
-  uint8_t text[TRAP_TEXT_SIZE];
+  char text[LIBTRAP_TEXT_SIZE];
   size_t text_len;
   struct sums sums;
 };
@@ -66,10 +66,10 @@ static trap_status trap_band(struct share *share, unsigned from, unsigned to) {
     memcpy((uint8_t *)window.samples + row_at(&window, c, 0), (uint8_t *)page->samples + row_at(page, c, top),
            (size_t)page->width * window.height);
   struct trap_place place = {page->width, page->height, 0, top, 0, from - top, page->width, to - from};
-  trap_status status = trap_window8(work->job.at, work->job.size, (const uint8_t *)work->names, strlen(work->names), window.samples,
+  trap_status status = trap_window8(work->job.at, work->job.size, work->names, strlen(work->names), window.samples,
                                     window.count, window.width, window.height, window.width, window.maxval, &place, share->text,
                                     sizeof share->text - 1, &share->text_len);
-  for (int c = 0; c < work->plates && status == TRAP_DONE; c++)
+  for (int c = 0; c < work->plates && status == LIBTRAP_DONE; c++)
     memcpy((uint8_t *)work->trapped.samples + row_at(page, c, from), (uint8_t *)window.samples + row_at(&window, c, from - top),
            (size_t)page->width * (to - from));
   free(window.samples);
@@ -79,9 +79,9 @@ static trap_status trap_band(struct share *share, unsigned from, unsigned to) {
 static void *walk(void *of) {
   struct share *share = of;
   unsigned height = share->work->rendered.height;
-  for (unsigned from = share->first * ROWS; from < height && share->status == TRAP_DONE; from += THREADS * ROWS) {
+  for (unsigned from = share->first * ROWS; from < height && share->status == LIBTRAP_DONE; from += THREADS * ROWS) {
     share->status = trap_band(share, from, height - from > ROWS ? from + ROWS : height);
-    if (share->status != TRAP_DONE) break;
+    if (share->status != LIBTRAP_DONE) break;
     share->text[share->text_len] = 0;
     add_report(&share->sums, (char *)share->text);
   }
@@ -107,21 +107,21 @@ static void write_report(const struct work *work, const struct share *shares, ch
 /* The status of the first thread that was refused; its line is told. */
 static trap_status joined(const struct share *shares) {
   for (int k = 0; k < THREADS; k++)
-    if (shares[k].status != TRAP_DONE) return fwrite(shares[k].text, 1, shares[k].text_len, stderr), shares[k].status;
-  return TRAP_DONE;
+    if (shares[k].status != LIBTRAP_DONE) return fwrite(shares[k].text, 1, shares[k].text_len, stderr), shares[k].status;
+  return LIBTRAP_DONE;
 }
 
 int main(int count, char **words) {
   static struct share shares[THREADS];
   struct work work = {.plates = count - 3, .rendered = {.bytes_each = 1}};
-  if (work.plates < 1 || work.plates > TRAP_MOST_PLANES) return fprintf(stderr, "usage: bands JOB REPORT NAME:IN:OUT ..\n"), 2;
-  char *outs[TRAP_MOST_PLANES], *named[TRAP_MOST_PLANES], names[TRAP_MOST_PLANES * 65 + 1];
+  if (work.plates < 1 || work.plates > LIBTRAP_MOST_PLANES) return fprintf(stderr, "usage: bands JOB REPORT NAME:IN:OUT ..\n"), 2;
+  char *outs[LIBTRAP_MOST_PLANES], *named[LIBTRAP_MOST_PLANES], names[LIBTRAP_MOST_PLANES * 65 + 1];
   work.job = whole(words[1]);
   read_plates(&work.rendered, work.plates, words + 3, names, named, outs);
   work.names = names, work.trapped = work.rendered;
   work.trapped.samples = room(work.trapped.count);
   trap_status status = trap_halo(work.job.at, work.job.size, &work.halo, shares[0].text, sizeof shares[0].text, &shares[0].text_len);
-  if (status != TRAP_DONE) return fwrite(shares[0].text, 1, shares[0].text_len, stderr), status;
+  if (status != LIBTRAP_DONE) return fwrite(shares[0].text, 1, shares[0].text_len, stderr), status;
   pthread_t threads[THREADS];
   for (int k = 0; k < THREADS; k++) {
     shares[k].work = &work, shares[k].first = k;
@@ -129,8 +129,8 @@ int main(int count, char **words) {
   }
   for (int k = 0; k < THREADS; k++) pthread_join(threads[k], 0);
   status = joined(shares);
-  if (status == TRAP_DONE) write_report(&work, shares, named, words[2]);
-  for (int c = 0; c < work.plates && status == TRAP_DONE; c++) write_plate(&work.trapped, c, outs[c]);
+  if (status == LIBTRAP_DONE) write_report(&work, shares, named, words[2]);
+  for (int c = 0; c < work.plates && status == LIBTRAP_DONE; c++) write_plate(&work.trapped, c, outs[c]);
   free(work.rendered.samples), free(work.trapped.samples), free(work.job.at);
   return status;
 }

@@ -11,7 +11,7 @@
 
 /* A file that was read whole. */
 struct bytes {
-  uint8_t *at;
+  char *at;
   size_t size;
 };
 
@@ -70,7 +70,7 @@ static void read_plate(struct planes *planes, int c, int plates, const char *nam
   struct bytes file = whole(name);
   unsigned width, height, maxval;
   int header = 0;
-  if (sscanf((char *)file.at, "P5 %u %u %u%n", &width, &height, &maxval, &header) < 3) stop(name, "is no raw PGM file");
+  if (sscanf(file.at, "P5 %u %u %u%n", &width, &height, &maxval, &header) < 3) stop(name, "is no raw PGM file");
   size_t plane = (size_t)width * height;
   if (c == 0) {
     planes->width = width, planes->height = height, planes->maxval = maxval, planes->count = plane * plates;
@@ -79,7 +79,7 @@ static void read_plate(struct planes *planes, int c, int plates, const char *nam
   if (width != planes->width || height != planes->height || maxval != planes->maxval) stop(name, "is of other sides or another maxval");
   if (planes->bytes_each == 1 && maxval > 255) stop(name, "has samples of two bytes");
   if (file.size - header - 1 != plane * (maxval < 256 ? 1 : 2)) stop(name, "is too short or too long");
-  for (size_t k = 0; k < plane; k++) put_ink(planes, c * plane + k, maxval - sample(file.at + header + 1, k, maxval));
+  for (size_t k = 0; k < plane; k++) put_ink(planes, c * plane + k, maxval - sample((const uint8_t *)file.at + header + 1, k, maxval));
   free(file.at);
 }
 

@@ -42,15 +42,15 @@ static int planes_of(const struct rip *rip) {
 
 /* Traps the planes in Ghostscript's own raster, and writes the report; or tells why not. */
 static trap_status trap_page(const struct rip *rip, int planes) {
-  static uint8_t text[TRAP_TEXT_SIZE];
+  static char text[LIBTRAP_TEXT_SIZE];
   const struct raster *raster = &rip->raster;
   char names[MOST_COLORANTS * (MOST_NAME + 1)] = "", path[MOST_PATH];
   for (int c = 0; c < planes; c++) strcat(strcat(names, c ? "\n" : ""), rip->colorants[c]);
   size_t text_len = 0;
-  trap_status status = trap_planes8(rip->job.at, rip->job.size, (const uint8_t *)names, strlen(names), raster->samples,
+  trap_status status = trap_planes8(rip->job.at, rip->job.size, names, strlen(names), raster->samples,
                                     planes * plane_size(raster), raster->width, raster->height, raster->step, 255, text, sizeof text,
                                     &text_len);
-  if (status != TRAP_DONE) return fwrite(text, 1, text_len, stderr), status;
+  if (status != LIBTRAP_DONE) return fwrite(text, 1, text_len, stderr), status;
   snprintf(path, sizeof path, "%s/%d.report", rip->folder, rip->page);
   FILE *file = begun(path);
   fwrite(text, 1, text_len, file);

@@ -15,7 +15,7 @@ struct rip {
   struct bytes job;
   const char *folder;
   int page, plates;
-  char names[TRAP_MOST_PLANES][MOST_NAME + 1];
+  char names[LIBTRAP_MOST_PLANES][MOST_NAME + 1];
   struct planes planes;
 };
 
@@ -25,7 +25,7 @@ static const char *const process_names[PROCESS] = {"Cyan", "Magenta", "Yellow", 
 static void name_plates(fz_context *context, struct rip *rip, fz_separations *spots) {
   int count = fz_count_separations(context, spots);
   rip->plates = PROCESS + count;
-  if (rip->plates > TRAP_MOST_PLANES) fz_throw(context, FZ_ERROR_GENERIC, "more than %d inks", TRAP_MOST_PLANES);
+  if (rip->plates > LIBTRAP_MOST_PLANES) fz_throw(context, FZ_ERROR_GENERIC, "more than %d inks", LIBTRAP_MOST_PLANES);
   memset(rip->names, 0, sizeof rip->names);
   for (int c = 0; c < rip->plates; c++) {
     const char *name = c < PROCESS ? process_names[c] : fz_separation_name(context, spots, c - PROCESS);
@@ -67,14 +67,14 @@ static void render_band(fz_context *context, struct rip *rip, fz_page *page, fz_
 
 /* Traps the planes and writes the report, or prints the error. */
 static trap_status trap_page(struct rip *rip) {
-  static uint8_t text[TRAP_TEXT_SIZE];
-  char names[TRAP_MOST_PLANES * (MOST_NAME + 1)] = "", path[MOST_PATH];
+  static char text[LIBTRAP_TEXT_SIZE];
+  char names[LIBTRAP_MOST_PLANES * (MOST_NAME + 1)] = "", path[MOST_PATH];
   for (int c = 0; c < rip->plates; c++) strcat(strcat(names, c ? "\n" : ""), rip->names[c]);
   size_t text_len = 0;
   struct planes *planes = &rip->planes;
-  trap_status status = trap_planes8(rip->job.at, rip->job.size, (const uint8_t *)names, strlen(names), planes->samples, planes->count,
+  trap_status status = trap_planes8(rip->job.at, rip->job.size, names, strlen(names), planes->samples, planes->count,
                                     planes->width, planes->height, planes->width, 255, text, sizeof text, &text_len);
-  if (status != TRAP_DONE) return fwrite(text, 1, text_len, stderr), status;
+  if (status != LIBTRAP_DONE) return fwrite(text, 1, text_len, stderr), status;
   snprintf(path, sizeof path, "%s/%d.report", rip->folder, rip->page);
   FILE *file = begun(path);
   fwrite(text, 1, text_len, file);
@@ -101,7 +101,7 @@ static void render_page(fz_context *context, struct rip *rip, fz_page *page, fz_
 static trap_status rip_page(fz_context *context, struct rip *rip, fz_document *document, float dpi) {
   fz_page *page = fz_load_page(context, document, rip->page - 1);
   fz_separations *spots = 0;
-  trap_status status = TRAP_DONE;
+  trap_status status = LIBTRAP_DONE;
   char path[MOST_PATH];
   fz_var(spots);
   fz_try(context) {
@@ -116,20 +116,20 @@ static trap_status rip_page(fz_context *context, struct rip *rip, fz_document *d
   }
   fz_catch(context) fz_rethrow(context);
   if (rip->job.at) status = trap_page(rip);
-  for (int c = 0; status == TRAP_DONE && c < rip->plates; c++) {
+  for (int c = 0; status == LIBTRAP_DONE && c < rip->plates; c++) {
     snprintf(path, sizeof path, "%s/%d-%s.pgm", rip->folder, rip->page, rip->names[c]);
     write_plate(&rip->planes, c, path);
   }
   free(rip->planes.samples);
   rip->planes.samples = 0;
-  if (status == TRAP_DONE) printf("page %d: %u by %u in %d planes\n", rip->page, rip->planes.width, rip->planes.height, rip->plates);
+  if (status == LIBTRAP_DONE) printf("page %d: %u by %u in %d planes\n", rip->page, rip->planes.width, rip->planes.height, rip->plates);
   return status;
 }
 
 int main(int count, char **words) {
   if (count != 5) return fprintf(stderr, "usage: rip_mupdf IN.pdf DPI JOB FOLDER\n"), 2;
   static struct rip rip;
-  trap_status status = TRAP_DONE;
+  trap_status status = LIBTRAP_DONE;
   fz_document *document = 0;
   fz_context *context = fz_new_context(0, 0, FZ_STORE_DEFAULT);
   if (!context) stop("rip_mupdf", "MuPDF does not begin");
@@ -141,7 +141,7 @@ int main(int count, char **words) {
     fz_register_document_handlers(context);
     document = fz_open_document(context, words[1]);
     int pages = fz_count_pages(context, document);
-    for (rip.page = 1; rip.page <= pages && status == TRAP_DONE; rip.page++)
+    for (rip.page = 1; rip.page <= pages && status == LIBTRAP_DONE; rip.page++)
       status = rip_page(context, &rip, document, (float)atof(words[2]));
   }
   fz_always(context) fz_drop_document(context, document);

@@ -92,12 +92,12 @@ trap_status trap_tile(const Rendered &page, const std::string &job, uint32_t hal
       for (uint32_t x = 0; x < across.count; x++) window.push_back(pixel(page, c, down.first + y, across.first + x));
   const trap_place place = {page.width, page.height, across.first, down.first, across.core, down.core, wide, tall};
   const std::string names = joined(page.names);
-  std::vector<uint8_t> text(TRAP_TEXT_SIZE);
+  std::vector<char> text(LIBTRAP_TEXT_SIZE);
   size_t text_len = 0;
-  const trap_status status = trap_window8(reinterpret_cast<const uint8_t *>(job.data()), job.size(),
-                                          reinterpret_cast<const uint8_t *>(names.data()), names.size(), window.data(), window.size(),
-                                          across.count, down.count, across.count, 255, &place, text.data(), text.size(), &text_len);
-  if (status != TRAP_DONE) return std::cerr.write(reinterpret_cast<const char *>(text.data()), text_len), status;
+  const trap_status status =
+      trap_window8(job.data(), job.size(), names.data(), names.size(), window.data(), window.size(), across.count, down.count,
+                   across.count, 255, &place, text.data(), text.size(), &text_len);
+  if (status != LIBTRAP_DONE) return std::cerr.write(text.data(), text_len), status;
   for (size_t c = 0; c < plates.size(); c++)
     for (uint32_t y = 0; y < tall; y++) {
       const uint8_t *core = &window[(c * down.count + down.core + y) * across.count + across.core];
@@ -109,12 +109,11 @@ trap_status trap_tile(const Rendered &page, const std::string &job, uint32_t hal
 trap_status trap_page(const Rendered &page, const std::string &job, Plates &plates) {
   uint32_t halo = 0;
   size_t text_len = 0;
-  std::vector<uint8_t> text(TRAP_TEXT_SIZE);
-  trap_status status =
-      trap_halo(reinterpret_cast<const uint8_t *>(job.data()), job.size(), &halo, text.data(), text.size(), &text_len);
-  if (status != TRAP_DONE) return std::cerr.write(reinterpret_cast<const char *>(text.data()), text_len), status;
-  for (uint32_t top = 0; status == TRAP_DONE && top < page.height; top += tile_side)
-    for (uint32_t left = 0; status == TRAP_DONE && left < page.width; left += tile_side)
+  std::vector<char> text(LIBTRAP_TEXT_SIZE);
+  trap_status status = trap_halo(job.data(), job.size(), &halo, text.data(), text.size(), &text_len);
+  if (status != LIBTRAP_DONE) return std::cerr.write(text.data(), text_len), status;
+  for (uint32_t top = 0; status == LIBTRAP_DONE && top < page.height; top += tile_side)
+    for (uint32_t left = 0; status == LIBTRAP_DONE && left < page.width; left += tile_side)
       status = trap_tile(page, job, halo, left, top, plates);
   return status;
 }
@@ -135,8 +134,8 @@ int rip_page(PDFDoc &document, SplashOutputDev &device, int number, double dpi, 
   document.displayPage(&device, number, dpi, dpi, 0, false, true, true);
   const Rendered page = rendered(*device.getBitmap());
   Plates plates = untrapped(page);
-  const trap_status status = job ? trap_page(page, *job, plates) : trap_status(TRAP_DONE);
-  if (status != TRAP_DONE) return status;
+  const trap_status status = job ? trap_page(page, *job, plates) : trap_status(LIBTRAP_DONE);
+  if (status != LIBTRAP_DONE) return status;
   if (!write_plates(page, plates, folder + "/" + std::to_string(number) + "-")) return poppler_fails;
   std::cout << "page " << number << ": " << page.width << " by " << page.height << " in " << plates.size() << " planes\n";
   return 0;

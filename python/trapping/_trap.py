@@ -10,7 +10,7 @@ from ._planes import Memory, Samples, Stack, memory_of, sides_of
 from ._refusal import Refusal
 from ._report import Report
 
-# A buffer of this size holds every report and every error line (TRAP_TEXT_SIZE of trap.h).
+# A buffer of this size holds every report and every error line (LIBTRAP_TEXT_SIZE of trap.h).
 _TEXT_SIZE = 16384
 
 
