@@ -15,7 +15,7 @@ from press import engine, inkedits, job, owner_files, pairs, watch
 from press.findings import Finding
 from press.folder import PageFolder, PageSource
 from press.inks import Ink, InkBook, Separation, inks_of_file
-from press.plates import Head, Plates
+from press.plates import Head, Plates, read_pgm
 from press.render import Rendering
 from press.settings import Settings
 from press.source import PageInfo
@@ -245,6 +245,31 @@ def test_zone_that_covers_nothing() -> None:
     assert first == ("a.zones: zone 1 lies from 0 to 50 pt across and from 700 to 750 pt up, and covers no pixel of the page, which is "
                      "842 by 595 pt as it is displayed")
     assert second.startswith("a.zones: zone 3 has an empty path, and covers no pixel")
+
+
+@pytest.mark.parametrize("rotate, box", [(0, None), (90, None), (180, None), (270, None), (90, "trim")])
+def test_where_coordinates_start(room: Room, built: None, rotate: int, box: str | None) -> None:
+    """At the lower left corner of the box as it is drawn and displayed, in points: the zone of docs/pictures/rotated.png, on a page
+    of small squares, changes pixels up to its own sides and none beyond."""
+    file = Pdf()
+    squares = " ".join(f"{x} {y} 2 2 re" for x in range(0, 200, 4) for y in range(0, 300, 4))
+    file.page(f"0 0 1 0 k 0 0 200 300 re f 1 0 0 0 k {squares} f", (200, 300))
+    room.write("turned.pdf", file.bytes())
+    with pikepdf.open(room / "turned.pdf", allow_overwriting_input=True) as pdf:
+        pdf.pages[0].obj.Rotate = rotate
+        pdf.pages[0].obj.TrimBox = pikepdf.Array([10, 20, 190, 280])
+        pdf.save(room / "turned.pdf")
+    room.write("turned.zones", "<< /TrapWidth 2 >> settrapparams 60 40 moveto 160 40 lineto 160 90 lineto 60 90 lineto settrapzone")
+    room.goes("plates", "turned.pdf", "page", "--dpi", "72", "--only-zones", "--no-thin-zones", "--trap-within", "media",
+              *(["--box", box] if box else []))
+    room.goes("trap", "page")
+    before, after = (np.stack([read_pgm(str(room / folder / f"{ink}.pgm")) for ink in ("Cyan", "Yellow")])
+                     for folder in ("page", "page/trapped"))
+    rows, columns = np.nonzero((before != after).any(axis=0))
+    height = before.shape[1]
+    assert (height, before.shape[2]) == {0: (300, 200), 90: (200, 300), 180: (300, 200), 270: (200, 300)}[rotate] if box is None else (180, 260)
+    assert 60 <= columns.min() <= 64 and 155 <= columns.max() < 160
+    assert 40 <= height - 1 - rows.max() <= 44 and 85 <= height - 1 - rows.min() < 90
 
 
 def test_files_beside_that_are_not_used(tmp_path: Path) -> None:
