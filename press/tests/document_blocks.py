@@ -12,7 +12,7 @@ PAGES = sorted(str(path.relative_to(TOP)) for path in TOP.glob("man/*.[157]"))
 FENCE = re.compile(r"^```(\w*)\n(.*?)^```$", re.M | re.S)
 INDENTED = re.compile(r"(?:^|\n)\n((?:    .*\n|\n(?=    ))+)")
 LIST = re.compile(r"^\s*(?:[-*]|\d+\.) ")
-COMMAND = re.compile(r"(?:press/|press |bin/|check/|examples/|\./|\.\./\S*bin/|\$ )\S|(?:apt|make|cc|pip|python3|cd|env|sbatch|eval|mkdir|cat"
+COMMAND = re.compile(r"(?:press/|press |bin/|bench/|check/|examples/|\./|\.\./\S*bin/|\$ )\S|(?:apt|make|cc|pip|python3|cd|env|sbatch|eval|mkdir|cat"
                      r"|presscheck|trap|trapset|trapsheet|trapkeep|trappool|traprun|poster=|for) ?\S")
 PICTURE = re.compile(r"[─│]|\+--")
 REPORT = "trap report"
