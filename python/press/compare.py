@@ -27,7 +27,7 @@ Place = tuple[int, int, int, int]
 @dataclass(frozen=True)
 class PlateDifference:
     """A plate that differs: its ink's name in the PDF, how many pixels have another tint, and the version, A or B, that
-    has such a plate if the other one has none."""
+    alone has such a plate, if only one has it."""
 
     ink: str
     pixels: int

@@ -1,5 +1,5 @@
 # SPDX-License-Identifier: Apache-2.0
-"""Form fields of a page that the PDF gives no appearance: Ghostscript draws them by itself."""
+"""Form fields of a page that the PDF gives no appearance: Ghostscript makes up one."""
 import pikepdf
 
 from .source import UNREAD, Source

@@ -172,7 +172,7 @@ def write_text(final: str, text: str, errors: str = "strict") -> None:
 
 @contextlib.contextmanager
 def scratch_folder() -> Iterator[str]:
-    """A folder of temporary files. What killed runs have left beside it is cleared away."""
+    """A folder of temporary files. What killed runs have left among the temporary files is cleared away."""
     place = tempfile.gettempdir()
     sweep(place)
     with tempfile.TemporaryDirectory(prefix=temporary_name(), dir=place) as path:
@@ -250,11 +250,11 @@ def take_lock(path: str, place: str, how: int, seconds: float) -> int:
             # A run that removes the file of a lock holds it for a moment.
             time.sleep(LOCK_WAIT)
             if attempt == tries - 1:
-                holder = os.pread(handle, 1000, 0).decode("utf-8", "replace").strip() or "its process is not told"
+                holder = os.pread(handle, 1000, 0).decode("utf-8", "replace").strip() or "its process is not known"
                 os.close(handle)
                 raise PressError(Status.OUTPUT, f"another run is at work here ({holder})", place) from fault
         except OSError as fault:
-            LOG.warning("%s: no lock can be held here (%s): see to it that one run alone is at work", place,
+            LOG.warning("%s: no lock can be held here (%s): make sure that no other run works here", place,
                         fault.strerror)
             break
         os.close(handle)

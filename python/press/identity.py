@@ -151,13 +151,13 @@ def fail_mixed(job: JobFolder, pages: Sequence[int], line: str) -> list[PageFail
 
 
 def gather(job: JobFolder) -> None:
-    """Takes the records of the page folders into that of the job."""
-    done, failed = job.pages()
-    found = {}
-    for number, folder in [*((number, job.failed(number)) for number in failed), *done.items()]:
-        with contextlib.suppress(PressError):
-            part = page_of(read_record(folder), number)
-            if part:
-                found[str(number)] = part
+    """Takes the records of the page folders into that of the job. Runs of single pages do so one after another."""
     with changing_record(job.path) as record:
+        done, failed = job.pages()
+        found = {}
+        for number, folder in [*((number, job.failed(number)) for number in failed), *done.items()]:
+            with contextlib.suppress(PressError):
+                part = page_of(read_record(folder), number)
+                if part:
+                    found[str(number)] = part
         record[PAGES] = sorted_pages(found)

@@ -141,7 +141,7 @@ def words_for(name: str, value: Any) -> str:
 
 
 def recorded_options(out: str, pages: Sequence[int]) -> list[dict[str, Any]]:
-    """The recorded options of each page, or of the job where a page has none; none at all where there is no record."""
+    """The recorded options of each page, or those of the job for a page without a record; empty without any record."""
     job = read_record(out)
     if OPTIONS not in job:
         return []
