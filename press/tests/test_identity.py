@@ -12,7 +12,7 @@ from press import identity, job_record, recorded
 from press.errors import PressError
 from press.folder import JobFolder
 from press.settings import Settings, parameters
-from room import Room
+from room import LONGEST, Room
 from small_pdf import page, pdf
 
 ALL = ("all", "--quiet", "--no-proof", "--dpi", "72")
@@ -259,3 +259,12 @@ def test_trapped_pdf_by_the_record(room: Room) -> None:
     (room / "out/page-001/job.json").write_text(json.dumps(part))
     room.refused(4, r"press-pdf: none\.icc: page 1 was drawn by this profile, which is not there \(--icc names another\)", "pdf", "cropped.pdf",
                  "trapped.pdf", "out")
+
+
+@pytest.mark.usefixtures("built")
+def test_runs_of_single_pages_at_the_same_time(room: Room) -> None:
+    """Each page is in the record, whichever run ends last."""
+    pages_of(room / "job.pdf", GRAY, CYAN, PAIR)
+    runs = [room.start(*ALL, "--page", str(page), "job.pdf", "out", log=f"page{page}") for page in (1, 2, 3)]
+    assert [child.wait(LONGEST) for child in runs] == [0, 0, 0], [room.complained(f"page{page}") for page in (1, 2, 3)]
+    assert list(record(room / "out")["pages"]) == ["1", "2", "3"] and not room.left_over()

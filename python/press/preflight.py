@@ -326,7 +326,7 @@ def merged(findings: Sequence[Finding], source: Source, page: int, report: PageR
 
 
 def ghostscript_findings(page: Page) -> Iterator[Finding]:
-    """What Ghostscript repaired, the form fields for which it makes up an appearance, and the fonts that the PDF lacks."""
+    """What Ghostscript repaired, the form fields that it gives an appearance, and the fonts that the PDF lacks."""
     repairs = page.rendering.repairs
     names = fields_without_appearance(page.source, page.number) if OF_FIELDS in repairs else []
     if names:
