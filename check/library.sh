@@ -57,6 +57,8 @@ else
   skip "NumPy arrays" "python3 has no numpy"
 fi
 
+"$here/library/rust.sh"
+
 compiled refused "$library/libtrap.a" -Wl,--wrap=malloc,--wrap=realloc,--wrap=free
 "$out/refused"
 shared=(-pthread -L"$library" -ltrap "-Wl,-rpath,$library")

@@ -1,0 +1,222 @@
+// SPDX-License-Identifier: Apache-2.0
+//! Traps the separated planes of a page, or a window of a sheet, where they lie in memory.
+//!
+//! Planes follow one another in the order of their names, each row by row from the top; 0 is no ink, `maxval` is full ink. The job
+//! describes inks, trap widths and zones (docs/JOBS.md of the repository).
+
+use std::ffi::c_char;
+use std::fmt;
+
+pub use trap_sys::TrapPlace as Place;
+
+/// How planes lie in the samples: the sides of each in samples, the samples from the start of a row to that of the next, and the
+/// tint of full ink.
+#[derive(Clone, Copy, Debug, PartialEq, Eq)]
+pub struct Layout {
+    pub width: u32,
+    pub height: u32,
+    pub step: u32,
+    pub maxval: u32,
+}
+
+/// Why a call failed; no sample was changed.
+#[derive(Clone, Copy, Debug, PartialEq, Eq)]
+pub enum Kind {
+    /// An argument is wrong.
+    Call,
+    /// The job has a fault, or lacks the details of a plane's ink.
+    Job,
+    /// The planes or the zones are not valid.
+    Page,
+    /// There is too little memory.
+    Memory,
+}
+
+/// A call that failed: its kind and its error line, such as "job: OutOfRange TrapWidth at 14".
+#[derive(Clone, Debug, PartialEq, Eq)]
+pub struct Refusal {
+    pub kind: Kind,
+    pub line: String,
+}
+
+impl fmt::Display for Refusal {
+    fn fmt(&self, to: &mut fmt::Formatter<'_>) -> fmt::Result {
+        to.write_str(&self.line)
+    }
+}
+
+impl std::error::Error for Refusal {}
+
+mod sealed {
+    pub trait Sealed {}
+    impl Sealed for u8 {}
+    impl Sealed for u16 {}
+}
+
+/// A type of samples: `u8` or `u16`.
+pub trait Sample: sealed::Sealed + Sized {
+    #[doc(hidden)]
+    fn call(call: &Call<'_>, samples: &mut [Self], place: Option<&Place>, text: &mut Text) -> u8;
+}
+
+/// The arguments of a call but its samples and its text.
+#[doc(hidden)]
+pub struct Call<'a> {
+    job: &'a [u8],
+    names: String,
+    layout: Layout,
+}
+
+/// The text of a call.
+#[doc(hidden)]
+pub struct Text {
+    bytes: Vec<u8>,
+    len: usize,
+}
+
+impl Text {
+    fn new() -> Text {
+        Text {
+            bytes: vec![0; trap_sys::LIBTRAP_TEXT_SIZE],
+            len: 0,
+        }
+    }
+
+    fn into_string(self) -> String {
+        let len = self.len.min(self.bytes.len());
+        String::from_utf8_lossy(&self.bytes[..len])
+            .trim_end_matches('\n')
+            .to_owned()
+    }
+}
+
+macro_rules! samples {
+    ($type:ty, $page:ident, $window:ident) => {
+        impl Sample for $type {
+            fn call(call: &Call<'_>, samples: &mut [Self], place: Option<&Place>, text: &mut Text) -> u8 {
+                let (job, names, layout) = (
+                    call.job.as_ptr().cast::<c_char>(),
+                    call.names.as_ptr().cast::<c_char>(),
+                    call.layout,
+                );
+                let into = text.bytes.as_mut_ptr().cast::<c_char>();
+                // SAFETY: each pointer comes from a slice, with its length; the samples, the text and its length are borrowed
+                // mutably, so nothing else shares memory with them.
+                unsafe {
+                    match place {
+                        None => trap_sys::$page(
+                            job,
+                            call.job.len(),
+                            names,
+                            call.names.len(),
+                            samples.as_mut_ptr(),
+                            samples.len(),
+                            layout.width,
+                            layout.height,
+                            layout.step,
+                            layout.maxval,
+                            into,
+                            text.bytes.len(),
+                            &mut text.len,
+                        ),
+                        Some(place) => trap_sys::$window(
+                            job,
+                            call.job.len(),
+                            names,
+                            call.names.len(),
+                            samples.as_mut_ptr(),
+                            samples.len(),
+                            layout.width,
+                            layout.height,
+                            layout.step,
+                            layout.maxval,
+                            place,
+                            into,
+                            text.bytes.len(),
+                            &mut text.len,
+                        ),
+                    }
+                }
+            }
+        }
+    };
+}
+
+samples!(u8, trap_planes8, trap_window8);
+samples!(u16, trap_planes16, trap_window16);
+
+/// The text of a call that is done; or its refusal.
+fn answer(status: u8, text: Text) -> Result<String, Refusal> {
+    let line = text.into_string();
+    let kind = match status {
+        trap_sys::LIBTRAP_DONE => return Ok(line),
+        trap_sys::LIBTRAP_CALL => Kind::Call,
+        trap_sys::LIBTRAP_JOB => Kind::Job,
+        trap_sys::LIBTRAP_PAGE => Kind::Page,
+        _ => Kind::Memory,
+    };
+    Err(Refusal { kind, line })
+}
+
+fn trap<S: Sample>(
+    job: &[u8],
+    names: &[&str],
+    samples: &mut [S],
+    layout: Layout,
+    place: Option<&Place>,
+) -> Result<String, Refusal> {
+    if names.iter().any(|name| name.contains('\n')) {
+        return Err(Refusal {
+            kind: Kind::Call,
+            line: "call: Names".to_owned(),
+        });
+    }
+    let call = Call {
+        job,
+        names: names.join("\n"),
+        layout,
+    };
+    let mut text = Text::new();
+    let status = S::call(&call, samples, place, &mut text);
+    answer(status, text)
+}
+
+/// Traps the planes of a page in place, and returns the report (docs/REPORT.md).
+pub fn trap_page<S: Sample>(job: &[u8], names: &[&str], samples: &mut [S], layout: Layout) -> Result<String, Refusal> {
+    trap(job, names, samples, layout, None)
+}
+
+/// Traps the core of a window of a sheet in place, and returns the core's part of the report. The other samples are unchanged.
+pub fn trap_window<S: Sample>(
+    job: &[u8],
+    names: &[&str],
+    samples: &mut [S],
+    layout: Layout,
+    place: &Place,
+) -> Result<String, Refusal> {
+    trap(job, names, samples, layout, Some(place))
+}
+
+/// The rows and columns that a window needs around its core, on each side that is not a border of the sheet.
+pub fn halo(job: &[u8]) -> Result<u32, Refusal> {
+    let (mut halo, mut text) = (0, Text::new());
+    // SAFETY: as above.
+    let status = unsafe {
+        let into = text.bytes.as_mut_ptr().cast::<c_char>();
+        trap_sys::trap_halo(
+            job.as_ptr().cast(),
+            job.len(),
+            &mut halo,
+            into,
+            text.bytes.len(),
+            &mut text.len,
+        )
+    };
+    answer(status, text).map(|_| halo)
+}
+
+/// The version of the library: 900 for 0.9.0.
+pub fn version() -> u32 {
+    // SAFETY: the call takes nothing.
+    unsafe { trap_sys::trap_version() }
+}
