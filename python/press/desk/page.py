@@ -233,7 +233,7 @@ class DeskPage:
         return {"name": ink.name, "title": readable(ink.colorant), "light": self.inks.lights[number],
                 "density": details.density / 10_000 if details else float(ink.density),
                 "kind": details.kind if details else ink.kind, "hasInk": ink.has_ink,
-                "coverage": [1 - float(one.levels[0][number].mean()) / 255 for one in (self.before, self.after)]}
+                "coverage": [one.coverage[number] for one in (self.before, self.after)]}
 
     def zone_name(self, zone: int) -> str:
         """What a zone of the job is; 0 is what no zone covers."""

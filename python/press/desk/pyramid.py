@@ -11,6 +11,7 @@ import os
 from collections.abc import Sequence
 from concurrent.futures import ThreadPoolExecutor
 from dataclasses import dataclass
+from functools import cached_property
 from pathlib import Path
 from typing import Any
 
@@ -28,6 +29,7 @@ FIRST_LEVEL = 2
 SMALLEST_SIDE = 256
 BLOCK_ROWS = 2048
 HEADER_BYTES = 4096
+MOST_READ = 4 << 20
 FORMAT = 1
 
 
@@ -83,6 +85,12 @@ class Pyramid:
     def last_level(self) -> int:
         """The level of the smallest copy."""
         return FIRST_LEVEL + len(self.levels) - 1
+
+    @cached_property
+    def coverage(self) -> list[float]:
+        """How much of the page each plate covers, as a share of full ink: of the largest copy that is read at once."""
+        level = next((one for one in self.levels if one[0].size <= MOST_READ), self.levels[-1])
+        return [1 - float(plane.mean()) / 255 for plane in level]
 
     def part(self, part: Part) -> list[Tints]:
         """A rectangle of all plates as eight bits, cut at the page's border."""

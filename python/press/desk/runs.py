@@ -27,6 +27,8 @@ from .thin_zones import Strokes, by_width, rule_of
 LOG = logging.getLogger("press.desk")
 QUIET_SECONDS = 0.25
 STROKES_SECONDS, STROKES_MEMORY = 600, 12 << 30
+SLOTS, SLOT_SECONDS = threading.Semaphore(2), 0.1
+"""Two pages are trapped at once; the others wait, so that memory stays bounded."""
 PROGRESS_SECONDS, LARGE = 1.0, 100_000_000
 """A page of so many samples shows progress while it is trapped."""
 Notify = Callable[..., None]
@@ -87,8 +89,11 @@ class PageRun:
         return started
 
     def _run(self, asked: int) -> None:
+        while not SLOTS.acquire(timeout=SLOT_SECONDS):
+            if not self._is_wanted(asked):
+                return
         try:
-            while self._trap(asked):
+            while self._is_wanted(asked) and self._trap(asked):
                 pass
         except PressError as refused:
             if self._is_wanted(asked):
@@ -97,6 +102,7 @@ class PageRun:
             LOG.warning("%s: %s", self.page.folder.path, failed)
             self.notify(kind="fault", text=f"{failed.filename or 'write'}: {failed.strerror}")
         finally:
+            SLOTS.release()
             with self.wake:
                 self.child = None
 
