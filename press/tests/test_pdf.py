@@ -425,6 +425,58 @@ def test_the_command_and_its_report(tmp_path: Path) -> None:
     assert done.returncode == 0 and done.stdout.endswith("the traps of 2 pages are off\n"), done
 
 
+def option_cases(folder: Path) -> dict[str, tuple[pikepdf.Pdf, tuple[str, ...], Callable[[pikepdf.Pdf, Any], bool]]]:
+    """For each option of the command a file, the words, and what holds of the trapped file and its report with them."""
+    return {
+        "--margin": (one_page(ART), ("--margin", "3"), lambda pdf, told: told["margin"] == 3 and
+                     told["pages"][0]["painted"] > 2 * told["pages"][0]["traps"]),
+        "--anchor": (one_page(ART), ("--anchor", "bottom"), lambda pdf, told: told["anchor"] == "bottom"),
+        "--trapnet": (one_page(ART), ("--trapnet",), lambda pdf, told: told["form"] == "trapnet" and
+                      pdf.pages[0].Annots[0].Subtype == Name.TrapNet and "/OCProperties" not in pdf.Root),
+        "--pdfx1a": (one_page(ART), ("--pdfx1a",), lambda pdf, told: told["form"] == "pdfx1a" and
+                     "/OCProperties" not in pdf.Root and pdf.pdf_version == "1.3"),
+        "--no-verify": (one_page(ART), ("--no-verify",), lambda pdf, told: told["verified"] is False),
+        "--box": (one_page(ART), ("--box", "media"), lambda pdf, told: told["pages"][0]["box"] == "media")}
+
+
+@pytest.mark.parametrize("option", ["--margin", "--anchor", "--trapnet", "--pdfx1a", "--no-verify", "--box"])
+def test_options_of_the_command(tmp_path: Path, option: str) -> None:
+    """Each does what it says, and the report names it. Without --no-verify the file is verified."""
+    pdf, words, holds = option_cases(tmp_path)[option]
+    path = saved(pdf, tmp_path / "in.pdf")
+    done = run_command("pdf", path, tmp_path / "out.pdf", *folders_of(path), *words)
+    assert done.returncode == 0, done
+    told = json.loads((tmp_path / "out.json").read_text())
+    with pikepdf.open(tmp_path / "out.pdf") as made:
+        assert holds(made, told) and not made.check()
+    assert told["verified"] == (option != "--no-verify") and (told["verified"] or "not verified" in done.stdout)
+
+
+def test_options_that_lift_refusals(plain: tuple[Path, list[Path]]) -> None:
+    """--decrypt, --force and --strict by the command: what is refused without each of them, or with it."""
+    path, folders = plain
+    locked, out = path.parent / "locked.pdf", path.parent / "out.pdf"
+    with pikepdf.open(path) as pdf:
+        pdf.save(locked, encryption=pikepdf.Encryption(owner="owner", user=""))
+    assert "encrypted" in run_command("pdf", locked, out, folders[0]).stderr and not out.exists()
+    assert run_command("pdf", locked, out, folders[0], "--decrypt").returncode == 0
+    with pikepdf.open(out) as pdf:
+        assert not pdf.is_encrypted
+    twice = path.parent / "twice.pdf"
+    assert "trapped already" in run_command("pdf", out, twice, folders[0]).stderr and not twice.exists()
+    assert run_command("pdf", out, twice, folders[0], "--force").returncode == 0
+    done = run_command("pdf", path, path.parent / "strict.pdf", folders[0], "--strict")
+    assert done.returncode == 10 and "does not embed" in done.stderr and not (path.parent / "strict.pdf").exists(), done
+
+
+def test_how_much_a_file_grows(tmp_path: Path) -> None:
+    """By about half a byte for each painted pixel, with edges as hard to pack as a test can make them."""
+    path = saved(one_page(ART), tmp_path / "in.pdf")
+    result = trapped(path, folders_of(path, 600), verify=False)
+    growth = (tmp_path / OUTPUT).stat().st_size - path.stat().st_size
+    assert 0.3 < growth / result.pages[0].painted < 0.7 and result.pages[0].painted > 30_000
+
+
 def test_postscript(tmp_path: Path) -> None:
     """The PDF that Ghostscript makes of PostScript is trapped."""
     path = tmp_path / "in.ps"
@@ -447,6 +499,12 @@ def test_the_whole_way(room: Room) -> None:
     room.goes("all", "pair.pdf", "out", "--pdf", "--quiet", "--no-proof", "--dpi", "150", "--width", "0.4mm")
     told = json.loads((room / "out" / "pair-trapped.json").read_text())
     assert told["verified"] and told["pages"][0]["traps"] > 0
+    # Traps do not land on another file, whatever it looks like.
+    room.write("other.pdf", (room / "pair.pdf").read_bytes() + b"% changed\n")
+    room.refused(5, ".*was made of other bytes .* leaves out the proof .*", "pdf", "other.pdf", "new.pdf", "out", "--no-verify")
+    room.refused(10, ".*was made of other bytes .*", "pdf", "other.pdf", "new.pdf", "out", "--strict")
+    room.goes("pdf", "other.pdf", "new.pdf", "out", "--no-verify", "--force")
+    room.goes("pdf", "pair.pdf", "again.pdf", "out")
     with pikepdf.open(room / "pair.pdf") as pdf:
         pdf.save(room / "locked.pdf", encryption=pikepdf.Encryption(owner="owner", user=""))
     done = room.run("all", "locked.pdf", "two", "--pdf", "--quiet", "--no-proof", "--dpi", "150", "--width", "0.4mm")

@@ -1,5 +1,6 @@
 # SPDX-License-Identifier: Apache-2.0
 """Screened plates: angles and frequencies by their spectrum, tints by the mean of bits, pixels by their thresholds."""
+import hashlib
 import json
 import math
 from pathlib import Path
@@ -315,6 +316,12 @@ def test_a_page_and_its_report(page: Path, tmp_path: Path) -> None:
     assert told["beat_of_strong_inks"] < 0.05 and told["plates"] == figures["plates"]
     cyan = 100 * (255 - read_pgm(str(page / "trapped" / "Cyan.pgm")).astype(int)).mean() / 255
     assert told["plates"][0]["coverage"] == pytest.approx(cyan, abs=0.001)
+    for one in told["plates"]:
+        before, after = (read_pgm(str(page / place / f"{one['job_name']}.pgm")) for place in ("", "trapped"))
+        assert one["changed"] == (before != after).sum()
+        plate = (page / "trapped" / f"{one['job_name']}.pgm").read_bytes()
+        assert one["plate_sha256"] == hashlib.sha256(plate).hexdigest()
+    assert any(one["changed"] for one in told["plates"])
     with tifffile.TiffFile(tmp_path / "out" / "in-1(Test Red).tif") as file:
         tags = {tag.name: tag.value for tag in file.pages[0].tags}
     assert tags["ImageDescription"] == tags["PageName"] == "Test Red" and tags["XResolution"] == (600, 1)

@@ -13,7 +13,7 @@ from .folder import TRAPPED
 from .inks import Ink
 from .job_record import digest_of
 from .names import readable
-from .output_report import coverage, file_figures, full_disk_refused, write_report
+from .output_report import changed, coverage, file_figures, full_disk_refused, write_report
 from .plates import Array
 from .screen_cell import STRONG, Cell, beat, cells, cells_together
 from .screen_dots import ink_counts, mirrored, negative, order_of, thresholds
@@ -86,11 +86,12 @@ def screen_page(page: TrappedPage, screens: Mapping[str, InkScreen], imaging: Im
         os.mkdir(ready)
         check_halftone(scratch)
         plates = []
-        for one, plate in zip(screened, page.after.arrays):
+        for one, before, plate in zip(screened, page.before.arrays, page.after.arrays):
             path = os.fsdecode(os.path.join(os.fsencode(ready), name + b"(" + one.ink.suffix + b").tif"))
             screen_plate(plate, one, imaging, path, scratch)
             made_of = digest_of(page.folder.file(TRAPPED, f"{one.ink.name}.pgm"))
-            plates.append({**figures_of(one, plate, path, imaging), "plate_sha256": made_of})
+            plates.append({**figures_of(one, plate, path, imaging), "changed": changed(before, plate),
+                           "plate_sha256": made_of})
         figures = {"page": page.number, "resolution": imaging.dpi, "plates_resolution": imaging.plate_dpi,
                    "negative": imaging.negative, "mirror": imaging.mirror, "beat_of_strong_inks": slowest,
                    "plates": plates}
