@@ -6,7 +6,7 @@ from press.job import Statement
 from press.job_language import SCALE, read_job
 from press.rects import Rect
 from press.regions import disjoint, fewer, is_within, split_by
-from press.zones import BEYOND, Layer, Wanted, compose, grid_spans
+from press.zones import BEYOND, Layer, Pair, Wanted, compose, grid_spans
 
 pytestmark = [pytest.mark.quick, pytest.mark.plain]
 SIZE = (200.0, 100.0)
@@ -175,6 +175,65 @@ def test_what_does_not_fit_is_warned_of():
     found = compose([own], Wanted(SIZE, thin={0.1: [Rect(9, 9, 12, 12)]}, images=(Rect(50, 50, 90, 90),)))
     assert len(found.warnings) == 2 and "thin strokes" in found.warnings[0] and "images" in found.warnings[1]
     assert sum(len(points) for zone in zones_of(found) for points in zone.subpaths) <= 16_384
+
+
+def test_each_step_overrides_the_one_before():
+    """At one place the page, a layer, the owner's zone, thin strokes, a pair and an image, each added to the one before: what
+    comes later holds there."""
+    place = Rect(20, 30, 40, 50)
+    steps = [({"within": Rect(0, 0, 150, 100)}, 0.3), ({"layers": (Layer("Back", (place,), {"TrapWidth": 0.28}),)}, 0.28), (None, 0.15),
+             ({"thin": {0.1: [place]}}, 0.1), ({"pairs": (Pair((place,), 0.5, "A pair:"),)}, 0.05), ({"images": (place,)}, 0)]
+    wanted, own = {}, [PARAMETERS]
+    for more, width in steps:
+        own = [PARAMETERS, PANEL] if more is None else own
+        wanted.update(more or {})
+        assert width_at(compose(own, Wanted(SIZE, **wanted)), 30, 40) == pytest.approx(width), wanted
+
+
+def owners(count, rings=1):
+    """So many zones of the owner's, each with so many rings of four corners."""
+    ring = b"0 0 moveto 1 0 rlineto 0 1 rlineto -1 0 rlineto"
+    return Statement("own.zones", b"\n".join([b" ".join([ring] * rings) + b" settrapzone"] * count + [b""]))
+
+
+EACH = {"layers": (Layer("Back", (Rect(100, 60, 120, 80),), {"TrapWidth": 0.2}),), "thin": {0.1: [Rect(9, 9, 12, 12)]},
+        "pairs": (Pair((Rect(60, 60, 70, 70),), 0.5, "A pair:"),), "images": (Rect(150, 10, 190, 50),)}
+GIVEN_UP = {"layers": "layer Back", "thin": "places of thin strokes", "pairs": "places of pairs", "images": "smallest images"}
+
+
+@pytest.mark.slow
+@pytest.mark.parametrize("zones, lost", [(245, ()), (247, ("pairs", "images")), (248, ("thin", "pairs", "images")),
+                                         (249, ("layers", "thin", "pairs", "images"))])
+def test_zones_that_run_out(zones, lost):
+    """With so many zones of the owner's no room is left for some of the press room's: images are given up first, then pairs,
+    thin strokes and layers, and a warning says which."""
+    found = compose([PARAMETERS, owners(zones)], Wanted(SIZE, **EACH))
+    assert len(zones_of(found)) <= 250
+    assert [key for key in EACH if any(GIVEN_UP[key] in line for line in found.warnings)] == list(lost), found.warnings
+    assert width_at(found, 110, 70) == (0.3 if "layers" in lost else 0.2)
+    assert width_at(found, 10, 10) == (0.3 if "thin" in lost else 0.1)
+    assert width_at(found, 65, 65) == pytest.approx(0.3 if "pairs" in lost else 0.15)
+    assert width_at(found, 170, 30) == (0.3 if "images" in lost else 0)
+
+
+def many(count, side=1.0):
+    """So many places that lie apart."""
+    return [Rect(2 * column, 1.5 * row, 2 * column + side, 1.5 * row + side) for row in range(count // 90 + 1) for column in range(90)][:count]
+
+
+@pytest.mark.slow
+@pytest.mark.parametrize("key", ["layers", "thin", "pairs", "images"])
+def test_corners_that_run_out(key):
+    """More places than a job has corners for are joined or given up, and the job stays within its limits."""
+    places = many(5900)
+    wanted = {"layers": {"layers": (Layer("Back", tuple(places), {"TrapWidth": 0.2}),)}, "thin": {"thin": {0.1: places}},
+              "pairs": {"pairs": tuple(Pair(tuple(places[start::7]), 0.5, "A pair:") for start in range(7))},
+              "images": {"images": tuple(places)}}[key]
+    found = compose([PARAMETERS, owners(3, 900)], Wanted(SIZE, **wanted))
+    zones = zones_of(found)
+    assert len(zones) <= 250 and sum(len(points) for zone in zones for points in zone.subpaths) <= 16_384
+    assert all(sum(map(len, zone.subpaths)) <= 4096 for zone in zones)
+    assert (key in ("pairs", "images")) == any(GIVEN_UP[key] in line for line in found.warnings), found.warnings
 
 
 # Rectangles

@@ -136,6 +136,18 @@ class Composer:
         # What holds once zones are made is hidden by the job: the last statements that set parameters say it.
         self.after = last.zones[0] if not self.owner else self.owner_end()
         self.warnings: list[str] = []
+        # The zones and the rectangles for which the job has room beside the owner's zones and the page. Each step joins
+        # its rectangles to half of those that are left, and takes its zones before the steps after it: so images are
+        # given up first, then pairs, thin strokes and layers.
+        used = sum(len(points) for zone in self.owner for points in zone.subpaths)
+        self.zones_left = MOST_ZONES - len(self.owner) - 1
+        self.rects_left = max(0, (MOST_VERTICES - used) // CORNERS - 8)
+
+    def take(self, pieces: Sequence[Piece]) -> list[Piece]:
+        """Zones that are written, which take room."""
+        self.zones_left -= len(pieces)
+        self.rects_left -= sum(len(piece.shape) for piece in pieces)
+        return list(pieces)
 
     def owner_end(self) -> JobZone:
         """What holds at the end of the owner's statements."""
@@ -148,7 +160,7 @@ class Composer:
         below = [*page, *layers, *(owner_piece(zone) for zone in self.owner)]
         thin = self.thin_zones(below)
         pairs = self.pair_zones([*below, *thin])
-        images = self.image_zones([*thin, *pairs])
+        images = self.image_zones()
         if not (self.owner or page or layers):
             # Without a zone of its own the page is what holds at its end.
             return Composed(list(self.own), self.warnings, 0, {})
@@ -174,27 +186,27 @@ class Composer:
 
     def layer_zones(self) -> list[Piece]:
         """A zone for each layer that the owner named."""
-        found = []
+        found: list[Piece] = []
         for layer in self.wanted.layers:
             if not layer.places:
                 continue
-            places = fewer(disjoint([self.cut(place) for place in layer.places]), RECTS_OF_ZONE)
+            most = min(RECTS_OF_ZONE, self.rects_left // 2)
+            if min(most, self.zones_left) < 1:
+                self.warnings.append(f"the layer {layer.name} gets no zone of its own, {LIMITS}: it is trapped as the "
+                                     f"page is")
+                continue
+            places = fewer(disjoint([self.cut(place) for place in layer.places]), most)
             parameters = self.before.parameters
             for key, value in layer.entries.items():
                 number = value if isinstance(value, bool) else round(value * SCALE)
                 parameters = replace(parameters, **{KEYS[key]: number})
-            found.append(Piece(tuple(ring for place in places for ring in shape_of(place)), parameters,
-                               self.before.step_limits, f"The layer {layer.name} (--layer):"))
+            found += self.take([Piece(tuple(ring for place in places for ring in shape_of(place)), parameters,
+                                      self.before.step_limits, f"The layer {layer.name} (--layer):")])
         return found
 
     def cut(self, rect: Rect) -> Rect:
         """A rectangle, as far as traps may be there."""
         return rect.common(self.wanted.within or self.wanted.page)
-
-    def room(self) -> int:
-        """How many rectangles the owner's zones leave room for."""
-        used = sum(len(points) for zone in self.owner for points in zone.subpaths)
-        return max(0, (MOST_VERTICES - used) // CORNERS - 8)
 
     def thin_zones(self, below: Sequence[Piece]) -> list[Piece]:
         """A zone for each width and each zone below, the widest first. Places are split along the zones below; those
@@ -214,11 +226,12 @@ class Composer:
             for part in chunks(rects):
                 found.append(Piece(tuple(ring for rect in part for ring in shape_of(rect)), parameters,
                                    below[at].limits, "Thin strokes (--no-thin-zones leaves them the page's width):"))
-        return found
+        return self.take(found)
 
     def pair_zones(self, below: Sequence[Piece]) -> list[Piece]:
         """A zone for each pair of inks and each zone below that is enabled, with the factor of that zone's width."""
-        found = []
+        found: list[Piece] = []
+        lost = 0
         for pair in self.wanted.pairs:
             places: dict[int, list[Rect]] = {}
             for rect in fewer(pair.places, RECTS_OF_ZONE):
@@ -226,12 +239,14 @@ class Composer:
                     if below[at].parameters.enabled:
                         places.setdefault(at, []).append(piece)
             for at, rects in sorted(places.items()):
-                width = min(100 * SCALE, int(below[at].parameters.trap_width * pair.factor))
-                parameters = replace(below[at].parameters, trap_width=width) if width else \
-                    replace(below[at].parameters, enabled=False)
-                for part in chunks(rects):
-                    found.append(Piece(tuple(ring for rect in part for ring in shape_of(rect)), parameters,
-                                       below[at].limits, pair.reason))
+                kept = fewer(rects, max(1, min(len(rects), self.rects_left // 2)))
+                if len(kept) > self.rects_left // 2 or len(list(chunks(kept))) > self.zones_left:
+                    lost += len(rects)
+                else:
+                    found += self.take(list(pair_pieces(pair, kept, below[at])))
+        if lost:
+            self.warnings.append(f"{lost} places of pairs of inks get no zone of their own, {LIMITS}: they have the "
+                                 f"width of the zone around them")
         return found
 
     def split(self, rect: Rect, below: Sequence[Piece]) -> Iterator[tuple[int, Rect]]:
@@ -248,27 +263,30 @@ class Composer:
     def fitting(self, places: dict[tuple[int, int], list[Rect]]) -> dict[tuple[int, int], list[Rect]]:
         """The places of thin strokes, joined until they take at most half of the room, and given up if that does not
         help: first those of the widest traps."""
-        most = self.room() // 2
+        most = self.rects_left // 2
         total = sum(len(rects) for rects in places.values())
         if total > most:
             places = {key: fewer(rects, max(1, len(rects) * most // total)) for key, rects in places.items()}
         kept: dict[tuple[int, int], list[Rect]] = {}
-        zones = MOST_ZONES - len(self.owner) - len(self.wanted.layers) - 40
+        zones = self.zones_left
         for key, rects in sorted(places.items(), key=lambda one: one[0][0]):
-            if len(rects) <= most and len(kept) < zones:
+            count = len(list(chunks(rects)))
+            if len(rects) <= most and count <= zones:
                 kept[key] = rects
                 most -= len(rects)
+                zones -= count
             else:
                 self.warnings.append(f"{len(rects)} places of thin strokes get no zone of their own, {LIMITS}: they "
                                      f"have the page's trap width")
         return kept
 
-    def image_zones(self, thin: Sequence[Piece]) -> list[Piece]:
+    def image_zones(self) -> list[Piece]:
         """The zones that keep traps out of images: their places, and wound the other way what is drawn above them."""
         places = disjoint([place for place in map(self.cut, self.wanted.images) if place != NOTHING])
         if not places:
             return []
-        room = self.room() - sum(len(piece.shape) for piece in thin)
+        # A zone of many holes may leave half of the one before it empty.
+        room = min(self.rects_left, self.zones_left * RECTS_OF_ZONE // 2)
         over = [hole for hole in self.wanted.above if any(hole.meets(place) for place in places)]
         holes = disjoint(fewer(over, room // 2))
         pairs = [(place, [hole.common(place) for hole in holes if hole.meets(place)]) for place in places]
@@ -315,6 +333,14 @@ class Composer:
                 rows[row][first:last] = [mark] * (last - first)
         found = [mark for row in rows for mark in row if mark]
         return {reason: found.count(reason) / GRID ** 2 for reason in sorted(set(found))}
+
+
+def pair_pieces(pair: Pair, rects: Sequence[Rect], below: Piece) -> Iterator[Piece]:
+    """The zones of places where two inks meet, with the factor of the trap width of the zone below."""
+    width = min(100 * SCALE, int(below.parameters.trap_width * pair.factor))
+    parameters = replace(below.parameters, trap_width=width) if width else replace(below.parameters, enabled=False)
+    for part in chunks(rects):
+        yield Piece(tuple(ring for rect in part for ring in shape_of(rect)), parameters, below.limits, pair.reason)
 
 
 def grid_spans(shape: Shape, size: tuple[float, float]) -> Iterator[tuple[int, int, int]]:
