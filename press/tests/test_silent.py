@@ -280,11 +280,11 @@ def test_files_beside_that_are_not_used(tmp_path: Path) -> None:
     unused = [os.path.basename(line.partition(" looks")[0]) for line in found if "is not used" in line]
     assert unused == ["Q.inks", "q.01.zones", "q.3.zones", "q.pdf.zones"]
     twice, = (line for line in found if "is not used" not in line)
-    assert twice.endswith("q.2.zones is taken for page 2 of q.pdf, and for all pages of q.2.pdf, which stands there too")
+    assert twice.endswith("q.2.zones is taken for page 2 of q.pdf, and for all pages of q.2.pdf, which is there too")
     given = owner_files.beside_findings(str(tmp_path / "q.pdf"), 2, Settings(zones="a", inks="b"))
     assert all(one.kind == "overridden" for one in given)
     other, = lines(owner_files.beside_findings(str(tmp_path / "q.2.pdf"), 1, Settings()))
-    assert other.endswith("q.2.zones is taken for all pages of q.2.pdf, and for page 2 of q.pdf, which stands there too")
+    assert other.endswith("q.2.zones is taken for all pages of q.2.pdf, and for page 2 of q.pdf, which is there too")
 
 
 def test_owner_files_are_judged_on_the_way(room: Room) -> None:

@@ -328,7 +328,7 @@ class InkBook:
         ranks: list[tuple[str, Sequence[Known | None]]] = [
             *self.told(one, others), ("library", [process]), ("name", [technical]), ("library", [spot])]
         look = one.look or UNKNOWN_LOOK
-        kind, kind_from = first_of(ranks, "kind") or ("Normal", Origin("default", "nobody told a kind"))
+        kind, kind_from = first_of(ranks, "kind") or ("Normal", Origin("default", "nobody gave a kind"))
         fitting = [(rank, [known for known in several if known and known.goes_with(kind)]) for rank, several in ranks]
         density, density_from = first_of(fitting, "density") or \
             (guess(look), Origin("guess", "the process inks that look like it"))

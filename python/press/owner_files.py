@@ -129,14 +129,14 @@ def beside_findings(path: str, pages: int, settings: Settings) -> Iterator[Findi
         if is_of_page(one, stem, middle, pages):
             if begin in others:
                 yield Finding("beside", WARNING, int(middle), f"{shown} is taken for page {middle} of {name}, and for "
-                              f"all pages of {begin}.pdf, which stands there too")
+                              f"all pages of {begin}.pdf, which is there too")
         elif one != stem + end.lower() and begin not in others:
             yield Finding("beside", WARNING, None, f"{shown} looks like a file of {name} and is not used: "
                           f"{stem}{end.lower()} would be, and {stem}.K.zones for a page K from 1 to {pages}")
     outer = re.fullmatch(r"(.+)\.([1-9]\d*)", stem)
     if outer and outer.group(1) in others and stem + ".zones" in there and not settings.zones:
         yield Finding("beside", WARNING, None, f"{os.path.join(folder, stem)}.zones is taken for all pages of {name}, "
-                      f"and for page {outer.group(2)} of {outer.group(1)}.pdf, which stands there too")
+                      f"and for page {outer.group(2)} of {outer.group(1)}.pdf, which is there too")
 
 
 def unread_findings(path: str, pages: int, given: Mapping[str, str | None]) -> Iterator[Finding]:

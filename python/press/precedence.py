@@ -17,7 +17,7 @@ from .settings import PARAMETERS, USUAL_WIDTH, Settings, Value, need_reach
 
 
 class Given(NamedTuple):
-    """A value of a parameter: its number or word in the job, as people read it, and where it is given."""
+    """A value of a parameter: its number or word in the job, as people read it, and its place."""
 
     value: str
     shown: str
@@ -117,7 +117,7 @@ def option_values(settings: Settings) -> Iterator[tuple[str, Given, bool]]:
 
 def lost_lines(settings: Settings, statements: Sequence[Statement]) -> Iterator[str]:
     """A line for each value that was given for a page and does not hold there, with the one that does; of a zone's own
-    values, where they stand in the place of an option's."""
+    values, if an option's gives way to them."""
     files = [one for one in statements if one.path]
     whole = [one for one in files if not read(one.text).made]
     given: dict[str, list[Given]] = {}
@@ -138,5 +138,5 @@ def lost_lines(settings: Settings, statements: Sequence[Statement]) -> Iterator[
 
 
 def said(one: Given) -> str:
-    """A value and where it is given."""
+    """A value and its place."""
     return f"{one.shown} ({one.place})" if one.place else one.shown
