@@ -31,7 +31,7 @@ class Block:
     @property
     def kind(self) -> str:
         """What it is: commands, a job, a table, a program in Python or C, or another thing."""
-        if self.language in ("sh", "python", "c", "text"):
+        if self.language in ("sh", "python", "c", "text", "rust", "toml"):
             return {"sh": "commands"}.get(self.language, self.language)
         lines = [line for line in self.text.splitlines() if line.strip()]
         if PICTURE.search(self.text):

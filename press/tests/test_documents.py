@@ -69,9 +69,17 @@ def reason_for(command: str) -> str | None:
 def test_every_block_is_known() -> None:
     """Each block is of a kind that a test here runs, or is no input of a program: pictures, formulas, contracts, printed lines."""
     shown = [(block.document, block.text) for block in every_block() if block.kind == "other"]
-    expected = {"README.md": "pub fn apply", "docs/DESIGN.md": "words  ", "docs/KEEPAWAY.md": "t'(p)", "docs/PLATES.md": "50 35",
+    expected = {"docs/DESIGN.md": "words  ", "docs/KEEPAWAY.md": "t'(p)", "docs/PLATES.md": "50 35",
                 "docs/TRAPPED_PDF.md": "press-pdf: ", "docs/VERSIONS.md": "page 1: the same"}
     assert [document for document, text in shown if not text.startswith(expected.get(document, "\0"))] == []
+
+
+def test_programs_in_rust_are_known() -> None:
+    """What is shown in Rust is a contract, which the prover checks, and calls of the package rust/trapping, which has tests of its own."""
+    shown = [(block.document, block.text) for block in every_block() if block.kind in ("rust", "toml")]
+    known = {"README.md": "pub fn apply", "docs/LIBRARY.md": "trapping"}
+    assert [document for document, text in shown if known.get(document, "\0") not in text] == []
+    assert not any(document == "docs/LIBRARY.md" for document, _ in shown) or (TOP / "rust" / "trapping").is_dir()
 
 
 def test_reasons_are_for_commands_that_are_there() -> None:
