@@ -44,6 +44,8 @@ class Block:
             return "table"
         if COMMAND.match(lines[0]):
             return "commands"
+        if lines[0] == "[dependencies]":
+            return "toml"
         return "python" if re.match(r"import |\w+ = \w+\.", lines[0]) else "other"
 
     def commands(self) -> Iterator[str]:
