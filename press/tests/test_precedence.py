@@ -15,6 +15,7 @@ from room import TOP, Room
 
 pytestmark = [pytest.mark.quick, pytest.mark.plain]
 PRESET, FILE, OTHER = "flexo", "<< /TrapWidth 0.3 /StepLimit 0.4 >> settrapparams\n", "<< /TrapWidth 0.5 >> settrapparams\n"
+PRESET_NAMES = ("offset", "flexo", "gravure", "screen")
 ZONED = "<< /TrapWidth 0.15 >> settrapparams 0 0 moveto 9 0 lineto 9 9 lineto settrapzone\n"
 
 
@@ -89,6 +90,20 @@ def test_a_preset_of_the_house(house: Path) -> None:
     assert parameters(preset=PRESET)["width"].text == "0.2mm" and (Path(PRESETS) / "flexo.preset").exists()
     (house / "flexo.preset").write_text("width 0.11mm\n")
     assert parameters(preset=PRESET)["width"].text == "0.11mm"
+
+
+def test_presets_are_as_documented() -> None:
+    """The table of presets in docs/ZONES.md has the values of the files, and of the engine."""
+    rows = [[cell.strip().strip("`") for cell in line.split("|")[1:-1]]
+            for line in (TOP / "docs" / "ZONES.md").read_text(encoding="utf-8").splitlines() if line.startswith("| ")]
+    head, = (row for row in rows if row[0] == "Preset")
+    shown = {row[0]: dict(zip(head[1:], row[1:])) for row in rows if len(row) == len(head) and row[0] in ("none", *PRESET_NAMES)}
+    assert set(shown) == {"none", *PRESET_NAMES} == {"none", *(path.stem for path in Path(PRESETS).glob("*.preset"))}
+    for name in PRESET_NAMES:
+        assert {key: value.text for key, value in parameters(preset=name).items()} == shown[name]
+    usual = Parameters()
+    assert [usual.trap_width, usual.black_width, usual.step_limit, usual.sliding_trap_limit, usual.trap_color_scaling] == [
+        round(10_000 * float(value.removesuffix("pt"))) for value in shown["none"].values()]
 
 
 # Inks
