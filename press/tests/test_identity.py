@@ -194,6 +194,8 @@ def test_a_page_made_again_uses_the_recorded_options(room: Room) -> None:
         line = (rf"press-all: --{option}: page 2 of out was made with {was}, and not with {now} \(without it the recorded options are used; "
                 r"--force makes the page with other ones\) \(see press-all --help\)")
         room.refused(2, line, "all", "--quiet", "--page", "2", *now.split(), "job.pdf", "out")
+    room.goes("all", "--quiet", "--page", "2", "--pdf", "--time", "500", "job.pdf", "out")
+    assert (room / "out/job-trapped.pdf").is_file()
     room.goes("all", "--quiet", "--page", "2", "--dpi", "36", "--force", "job.pdf", "out")
     found = record(room / "out")
     assert found["options"]["dpi"] == 72 and found["pages"]["2"]["options"] == {**found["pages"]["1"]["options"], "dpi": 36}
@@ -223,6 +225,10 @@ def test_only_changed(room: Room, kept: str) -> None:
     assert {one["sha256"] for one in found["pages"].values()} == {found["file"]["sha256"]} == {record(room / "out/page-001")["file"]["sha256"]}
     done = room.goes("all", "--quiet", "--dpi", "288", *options, "--only-changed", "--step", "0.5", "job.pdf", "out")
     assert "kept" not in done.out, done
+    found = record(room / "out/page-001")
+    (room / "out/page-001/job.json").write_text(json.dumps({**found, "version": "0.1"}))
+    done = room.goes("all", "--quiet", "--dpi", "288", *options, "--only-changed", "--step", "0.5", "job.pdf", "out")
+    assert [line for line in done.out.splitlines() if "kept" in line] == [done.out.splitlines()[1]], done
 
 
 @pytest.mark.usefixtures("built")

@@ -13,7 +13,7 @@ from .job_record import OPTIONS, options_of, read_record
 from .settings import PARAMETERS, Settings, add_made_options, add_page_choice
 
 # Options that decide how a run goes, and not what a page becomes. They are recorded, and never a reason to refuse.
-RUN_ONLY = ("time", "workers", "band", "strict")
+RUN_ONLY = ("time", "workers", "band", "trap-page", "strict", "pdf")
 # Not recorded: they are of this run alone.
 OF_A_RUN = ("page", "jobs", "force", "only_changed")
 PATHS = ("icc", "inks", "zones", "pairs")
@@ -89,7 +89,7 @@ def without_run_only(options: Mapping[str, Any]) -> dict[str, Any]:
 def of_the_run(settings: Settings, other: Settings) -> Settings:
     """These settings, with what only decides how a run goes taken from others."""
     names = [one.name for one in dataclasses.fields(Settings)
-             if one.name in RUN_ONLY or one.name in OF_A_RUN]
+             if one.name.replace("_", "-") in RUN_ONLY or one.name in OF_A_RUN]
     return settings.but(**{name: getattr(other, name) for name in names})
 
 
@@ -130,7 +130,9 @@ def settings_again(options: argparse.Namespace, chosen: Settings, out: str, page
     if other:
         raise UsageError(f"--page: pages {pages[0]} and {other} of {out} were made with different options: make them "
                          f"one after the other")
-    return of_the_run(settings_from(merged[0], out), chosen)
+    # The trapped PDF of the job has the page that is made again.
+    has_pdf = chosen.pdf or bool(options_of(read_record(out)).get("pdf"))
+    return of_the_run(settings_from(merged[0], out), chosen).but(pdf=has_pdf)
 
 
 def words_for(name: str, value: Any) -> str:

@@ -6,6 +6,7 @@ import hashlib
 import os
 from collections.abc import Sequence
 
+from .command import version
 from .errors import PressError
 from .folder import TRAPPED, WARNINGS, PageFolder, read_table
 from .inks import Ink
@@ -22,13 +23,16 @@ def digest_of_plates(folder: str, inks: Sequence[Ink]) -> str:
 
 def is_unchanged(old: str, made: PageFolder, part: Record) -> bool:
     """Whether the page that is done in a folder has the plates, the job, the inks and the options of one that was just
-    rendered, whose record is `part`. The job in the old folder may have been edited since."""
+    rendered, whose record is `part`. The job in the old folder may have been edited since. What another version of the
+    press commands made is made anew."""
     number = made.source.page
     try:
-        before = page_of(read_record(old), number)
-        inks = read_table(old)[1]
+        record, inks = read_record(old), read_table(old)[1]
     except PressError:
         return False
+    if os.path.islink(old) or record.get("version") != version():
+        return False
+    before = page_of(record, number)
     now, digests = page_of(part, number), before.get("digests", {})
     if before.get("state") != DONE or before.get(OPTIONS) != now[OPTIONS]:
         return False
