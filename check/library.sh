@@ -66,6 +66,8 @@ compiled threads "${shared[@]}"
 "$out/threads"
 compiled stack -pthread "$library/libtrap.a"
 "$out/stack"
+compiled random -pthread "$library/libtrap.a"
+"$out/random" 20000 "$2" 8
 
 # The page of the poster, whose files are written as they have to be.
 plates() {
@@ -112,6 +114,12 @@ if sanitized threads.tsan thread "$here/library/threads.c" "${shared[@]}"; then
   "${steady[@]}" "$out/threads.tsan" >"$out/told"
   echo "library: ThreadSanitizer finds nothing between eight threads in the shared object"
 fi
+for kind in address,undefined thread; do
+  if sanitized "random.${kind%%,*}" "$kind" "$here/library/random.c" -pthread "$library/libtrap.a"; then
+    "${steady[@]}" "$out/random.${kind%%,*}" 3000 "$2" 8 >"$out/told"
+    echo "library: with -fsanitize=$kind nothing is found in random calls by eight threads"
+  fi
+done
 
 [ "${3:-}" != --short ] || exit 0
 if ! there valgrind; then
@@ -125,3 +133,6 @@ page valgrind -q --error-exitcode=9 --leak-check=full "$out/bands"
 echo "library: Valgrind finds nothing on the poster, as a page and band by band"
 valgrind -q --tool=helgrind --error-exitcode=9 "$out/threads" 16
 echo "library: Valgrind's helgrind finds nothing between eight threads"
+valgrind -q --error-exitcode=9 --leak-check=full "$out/random" 500 "$2" 2 >"$out/told"
+valgrind -q --tool=helgrind --error-exitcode=9 "$out/random" 300 "$2" 8 >"$out/told"
+echo "library: Valgrind finds nothing in random calls"
