@@ -136,7 +136,8 @@ def soak_watch(minutes):
             watch.send_signal(signal.SIGTERM)
             status = watch.wait(600)
         time.sleep(1)
-        left = [name for name in os.listdir(hot) if name.startswith(".")]
+        claimed = os.path.join(hot, ".claimed")
+        left = [name for name in os.listdir(hot) if name.startswith(".") and name != ".claimed"] + os.listdir(claimed)
         with open(os.path.join(room, "log"), "rb") as log:
             failed = sum(b": failed: " in line for line in log)
         said = told("watch", done, 60 * minutes, status, found, len(left))

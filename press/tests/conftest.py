@@ -26,8 +26,8 @@ def pytest_addoption(parser: pytest.Parser) -> None:
 
 
 def pytest_collection_modifyitems(config: pytest.Config, items: list[pytest.Item]) -> None:
-    """The hostile files run by -m worst alone, the browser by -m browser, and the linters by -m lint."""
-    for mark in ("worst", "browser", "lint"):
+    """The hostile files run by -m worst alone, the browser by -m browser, the linters by -m lint, the soak by -m soak."""
+    for mark in ("worst", "browser", "lint", "soak"):
         if mark not in config.getoption("markexpr"):
             left = [item for item in items if item.get_closest_marker(mark)]
             items[:] = [item for item in items if not item.get_closest_marker(mark)]

@@ -30,7 +30,9 @@ class Block:
 
     @property
     def kind(self) -> str:
-        """What it is: commands, a job, a table, a program in Python or C, or another thing."""
+        """What it is: commands, a job, a table, a program in Python or C, hot folders, or another thing."""
+        if "[[folder]]" in self.text:
+            return "folders"
         if self.language in ("sh", "python", "c", "text", "rust", "toml"):
             return {"sh": "commands"}.get(self.language, self.language)
         lines = [line for line in self.text.splitlines() if line.strip()]

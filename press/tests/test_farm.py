@@ -1,21 +1,29 @@
 # SPDX-License-Identifier: Apache-2.0
 """Many pages: by GNU parallel on this machine, by a stand-in for ssh on others, and as tasks of an array job."""
+import hashlib
+import json
 import os
 import re
 import subprocess
 from pathlib import Path
 
 import pytest
+from press.farm_hosts import probe_script
 from room import COMMANDS, LABEL, Room, needs
 from test_watch import LABEL_DPI, same_pages
 
 pytestmark = [pytest.mark.usefixtures("built"), needs("parallel", "mutool")]
 QUIET = ("--quiet", "--lenient", "--no-proof", "--dpi", "72")
 # What is done on the machine `near` is done here. As sshd does, this begins in the home folder, and hands on nothing of the environment,
-# the name of a shell neither. The machine `down` cannot be reached; on `mute` nothing can be begun, since its TMPDIR is none.
+# the name of a shell neither. The machine `down` cannot be reached; on `mute` nothing can be begun, since its TMPDIR is none. `lost` and
+# `dumb` become like them when they have been probed.
 SSH = """#!/usr/bin/env bash
 while [[ $1 == -* ]]; do case $1 in -o | -i | -p | -l | -S) shift 2 ;; *) shift ;; esac; done
 machine=$1
+echo "$machine" >>"$HOME/calls"
+if [ "$machine" = lost ] || [ "$machine" = dumb ]; then
+  if [ "$(grep -cx "$machine" "$HOME/calls")" -gt 1 ]; then [ "$machine" = lost ] && machine=down || machine=mute; fi
+fi
 [ "$machine" != down ] || { echo "ssh: down: no route" >&2; exit 255; }
 shift
 [ "$1" != -- ] || shift
@@ -54,7 +62,6 @@ def test_pages_that_fail(room: Room) -> None:
     assert done.out.startswith("page 2: done") and done.out.count("\n") == 1, done
     room.goes("all", "--quiet", "three.pdf", "all", "--dpi", "300")
     assert same_pages(room / "all", room / "farm") == 3
-    room.refused(2, "press-farm: --again: the last run here had other words: .*", "farm", "--again", "three.pdf", "farm", "--dpi", "400")
 
 
 def test_label_has_the_bytes_of_all(room: Room) -> None:
@@ -92,13 +99,37 @@ def test_more_pages_than_memory(room: Room) -> None:
     assert told or available > 299_000_000, done
 
 
-def test_machines_that_are_lost(room: Room) -> None:
-    """A page of a machine that cannot be reached fails and is named; it is done elsewhere afterwards."""
+def test_machines_that_cannot_work(room: Room) -> None:
+    """A machine that cannot be reached, or does nothing, is probed once, dropped and named; its pages go to the others."""
     room.sample("twenty.pdf")
-    told = farm(room, 1, DONE + r"|^page [789]: failed: down was lost, or cannot be reached \(--again does the page\)$",
-                "--jobs", "1", "--hosts", "near,down", "--page", "7-9", "twenty.pdf", "far")
-    assert ": failed: down was lost" in told, told
-    farm(room, 0, DONE, "--again", "--hosts", "near", "--page", "7-9", "twenty.pdf", "far")
+    told = farm(room, 0, DONE, "--jobs", "1", "--hosts", "down,near,mute", "--page", "7-9", "twenty.pdf", "far")
+    assert told.count("\n") == 3
+    complained = room.run("farm", *QUIET, "--again", "--hosts", "down,near", "twenty.pdf", "far", env=ssh(room))
+    assert complained.status == 0 and complained.err.endswith("\npress-farm: warning: down is left out: ssh: down: no route\n"), complained
+    calls = (room.beside / "calls").read_text().split()
+    assert calls.count("down") == 2 and calls.count("mute") == 1, calls
+    done = room.run("farm", *QUIET, "--hosts", "down,mute", "--page", "7", "twenty.pdf", "none", env=ssh(room))
+    assert done.status == 3 and done.out == "" and (room / "far/page-007").is_dir(), done
+    assert sorted(line for line in done.err.splitlines() if "TrapWidth" not in line) == [
+        "press-farm: down, mute: none of its machines can work", "press-farm: warning: down is left out: ssh: down: no route",
+        "press-farm: warning: mute is left out: it starts nothing and gives no reason"], done
+
+
+def test_machines_of_another_disk(room: Room) -> None:
+    """A machine that has another folder in place of OUT, or no commands, is dropped with that reason."""
+    for token, why in ((str(room / "none"), "none is another folder there, or there is none"), (str(room.folder), "nothing can be written into none")):
+        script = probe_script(".", "none", token)
+        done = subprocess.run(["sh", "-c", script], cwd=room.folder, capture_output=True, text=True, check=False)
+        assert done.returncode == 1 and done.stdout.splitlines()[-1].endswith(why), done
+
+
+def test_machines_that_are_lost(room: Room) -> None:
+    """A page of a machine that is lost after it was probed fails and is named; it is done elsewhere afterwards."""
+    room.sample("twenty.pdf")
+    told = farm(room, 1, DONE + r"|^page [789]: failed: lost was lost, or cannot be reached \(--again does the page\)$",
+                "--jobs", "1", "--hosts", "near,lost", "--page", "7-9", "twenty.pdf", "far")
+    assert ": failed: lost was lost" in told, told
+    farm(room, 0, DONE, "--again", "--hosts", "near", "twenty.pdf", "far")
     assert sorted(path.name for path in (room / "far").glob("page-*")) == ["page-007", "page-008", "page-009"]
 
 
@@ -112,10 +143,45 @@ def test_pages_that_are_gone(room: Room) -> None:
     (room / "far/page-008").rmdir()
     with open(room / "far/farm.log", "a", encoding="ascii") as log:
         log.write("3\tnear\t17")
-    farm(room, 0, "^page 8: done: ", "--again", "--hosts", "near", "--page", "7-8", "twenty.pdf", "far")
-    farm(room, 1, "^page 7: failed: mute began nothing, and told no reason: ", "--hosts", "mute", "--page", "7", "twenty.pdf", "far")
+    farm(room, 0, "^page 8: done: ", "--again", "--hosts", "near", "twenty.pdf", "far")
+    farm(room, 1, "^page 7: failed: dumb started nothing and gave no reason: ", "--hosts", "dumb", "--page", "7", "twenty.pdf", "far")
     assert (room / "far/page-007").is_dir()
-    farm(room, 0, "^page 7: done: ", "--again", "--hosts", "near", "--page", "7", "twenty.pdf", "far")
+    farm(room, 0, "^page 7: done: ", "--again", "--hosts", "near", "twenty.pdf", "far")
+
+
+def test_again_takes_the_recorded_options(room: Room) -> None:
+    """--again takes the options and pages of the last run, and refuses other ones, and a file of other bytes."""
+    room.sample("three.pdf", "two.pdf")
+    zones = room.write("three.2.zones", "gsave\n")
+    first = room.run("farm", *QUIET, "--page", "2-3", "--width", "1pt", "three.pdf", "out")
+    assert first.status == 1, first
+    zones.unlink()
+    done = room.goes("farm", "--quiet", "--again", "three.pdf", "out")
+    assert re.fullmatch(r"page 2: done: .*\n", done.out), done
+    assert "/TrapWidth 1 " in (room / "out/page-002/page.job").read_text() and not (room / "out/page-001").exists()
+    room.refused(2, r"press-farm: --again takes the options of the last run, which were .*--dpi=72 .*", "farm", "--again", "--dpi", "144", "three.pdf", "out")
+    digests = []
+    for name in ("three.pdf", "two.pdf"):
+        digests.append(hashlib.sha256((room / name).read_bytes()).hexdigest()[:12])
+    (room / "two.pdf").replace(room / "three.pdf")
+    room.refused(8, rf"press-farm: three\.pdf: .*{digests[0]}.* then, {digests[1]}.*", "farm", "--again", "three.pdf", "out")
+    room.refused(4, "press-farm: none: no run was here that could be gone on with", "farm", "--again", "three.pdf", "none")
+
+
+def test_json_lines(room: Room) -> None:
+    """With --json there is an object for each event: a machine that is left out, each page's steps and end, the end."""
+    room.sample("three.pdf")
+    room.write("three.2.zones", "gsave\n")
+    done = room.run("farm", *QUIET, "--json", "--jobs", "1", "--hosts", "near,down", "--page", "1-2", "three.pdf", "out", env=ssh(room))
+    lines = [json.loads(line) for line in done.out.splitlines()]
+    events = {name: [one for one in lines if one["event"] == name] for name in {one["event"] for one in lines}}
+    assert done.status == 1 and done.err == "", done
+    assert events["host-dropped"] == [{"event": "host-dropped", "host": "down", "why": "ssh: down: no route"}], done
+    assert events["run-started"] == [{"event": "run-started", "path": "three.pdf", "pages": [1, 2], "count": 3, "converted": False}], done
+    page, = events["page-done"]
+    assert page["page"] == 1 and page["plates"] == 4 and page["seconds"] > 0 and page["disk"] > 0, page
+    assert events["page-failed"][0]["page"] == 2 and "three.2.zones" in events["page-failed"][0]["why"], events["page-failed"]
+    assert lines[-1] == {"event": "run-done", "failed": [2]} and len(events["run-done"]) == 1, lines
 
 
 def test_names_with_anything_in_them(room: Room) -> None:

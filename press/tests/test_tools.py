@@ -11,9 +11,9 @@ def test_missing_tools(room: Room, two: Path) -> None:
     assert two.is_dir()
     (room / "hot").mkdir()
     room.refused(3, r"press-plates: gs is not there \(Debian: apt install ghostscript\)", "plates", "two.pdf", "new", env=room.without("gs"))
-    path = room.without("parallel", "inotifywait")
+    path = room.without("parallel")
     room.refused(3, r"press-farm: parallel is not there \(Debian: apt install parallel\)", "farm", "two.pdf", "new", env=path)
-    room.refused(3, r"press-watch: inotifywait is not there \(Debian: apt install inotify-tools\)", "watch", "hot", env=path)
+    room.refused(3, r"press-watch: gs is not there \(Debian: apt install ghostscript\)", "watch", "hot", env=room.without("gs"))
 
 
 def test_no_converters(room: Room, two: Path) -> None:

@@ -1,5 +1,6 @@
 # SPDX-License-Identifier: Apache-2.0
 """A hot folder: what is taken and what is not, names with anything in them, and a watch that is stopped."""
+import json
 import os
 import re
 import subprocess
@@ -8,11 +9,13 @@ from typing import Iterator
 
 import pytest
 from room import LABEL, Room, needs
+from watch_soak import colour, soak, version
 
-pytestmark = [pytest.mark.usefixtures("built"), needs("inotifywait", "mutool")]
+pytestmark = [pytest.mark.usefixtures("built"), needs("mutool")]
 NAMES = ("$(touch ran).pdf", ' "b]".pdf', "*.PDF")
 LOG_LINE = re.compile(r"\d{4}-\d{2}-\d{2} [0-9:]{8} .*: (taken$|done: |failed: )")
 FIRST_BYTES = 300
+QUICK = ("--settle", "0", "--lenient", "--dpi", "72", "--no-proof")
 # The label has traps of 0.15 pt, which would be warned of where they are less than a pixel.
 LABEL_DPI = ("--dpi", "480")
 
@@ -26,11 +29,18 @@ class Hot:
         self.child: subprocess.Popen[str] | None = None
 
     def watch(self, *options: str, env: dict[str, str] | None = None) -> None:
-        """Starts to watch the folder. Skips the test if inotify does not work here."""
-        self.child = self.room.start("watch", *options, "hot", env=env)
-        self.room.wait_until(lambda: "watching" in self.room.complained() or self.child.poll() is not None, "it does not watch")
-        if self.child.poll() is not None and "inotify" in self.room.complained():
-            pytest.skip(f"inotify: {self.room.complained()}")
+        """Starts to watch the folder."""
+        self.watch_all("hot", *options, env=env)
+
+    def watch_all(self, *arguments: str, env: dict[str, str] | None = None) -> None:
+        """Starts a watch with these arguments."""
+        self.child = self.room.start("watch", *arguments, env=env)
+        self.room.wait_until(lambda: "watching" in self.room.complained(), "it does not watch", self.child)
+
+    def claimed(self, name: str) -> Path:
+        """The path of a file that is claimed."""
+        path, = self.folder.glob(f".claimed/*/in/{name}")
+        return path
 
     def ended(self) -> int:
         """How many files were done or failed."""
@@ -117,14 +127,110 @@ def test_one_watch_for_a_folder(room: Room, hot: Hot) -> None:
     room.refused(4, "press-watch: none: No such directory", "watch", "none")
 
 
-def test_work_that_is_stopped_stays(room: Room, hot: Hot) -> None:
-    """A file that is at work when the watch is stopped stays in the folder."""
+def test_work_that_is_stopped_is_done_later(room: Room, hot: Hot) -> None:
+    """A file that is at work when the watch is stopped stays claimed; the next watch makes it."""
+    room.sample("two.pdf")
+    data = (room / "two.pdf").read_bytes()
     (room.beside / "slow-now").touch()
-    hot.watch("--settle", "0", "--lenient", "--dpi", "300", env=room.slow_ghostscript("*tiffsep*-r300*"))
-    (hot.folder / "slow.pdf").write_bytes(LABEL.read_bytes())
+    hot.watch(*QUICK, env=room.slow_ghostscript())
+    (hot.folder / "slow.pdf").write_bytes(data)
     room.wait_until((room.beside / "slow-begun").exists, "slow.pdf is not taken", hot.child)
     hot.stop()
-    assert (hot.folder / "slow.pdf").read_bytes() == LABEL.read_bytes() and not (hot.folder / "done" / "slow").exists()
+    assert hot.claimed("slow.pdf").read_bytes() == data and not (hot.folder / "done" / "slow").exists()
+    hot.watch(*QUICK)
+    hot.wait(1)
+    hot.stop()
+    assert (hot.folder / "done/slow/slow.pdf").read_bytes() == data and not list(hot.folder.glob(".claimed/*"))
+    assert "slow.pdf: taken again" in room.printed()
+
+
+def test_replaced_while_it_is_made(room: Room, hot: Hot) -> None:
+    """A file that is replaced while it is made, or whose name has a newline, is made: each version has the plates of its bytes."""
+    room.sample("two.pdf")
+    first, second = (room / "two.pdf").read_bytes(), version(200, 0)
+    (room.beside / "slow-now").touch()
+    hot.watch(*QUICK, env=room.slow_ghostscript())
+    (hot.folder / "a\nb.pdf").write_bytes(first)
+    room.wait_until((room.beside / "slow-begun").exists, "a file is not taken", hot.child)
+    (hot.folder / "a\nb.pdf").write_bytes(second)
+    assert hot.child and room.stop(hot.child, 9) == -9
+    room.rests()
+    (room.beside / "slow-now").unlink()
+    hot.watch(*QUICK)
+    hot.wait(2)
+    hot.stop()
+    assert (hot.folder / "done/a\nb/a\nb.pdf").read_bytes() == first and (hot.folder / "done/a\nb-2/a\nb.pdf").read_bytes() == second
+    assert (hot.folder / "done/a\nb/page-001/Warm_Red.pgm").exists() and colour(hot.folder / "done/a\nb-2/page-001") == 200
+
+
+def test_half_written(room: Room, hot: Hot) -> None:
+    """Also --lenient refuses a file of which a writer has written the first bytes alone, and says so."""
+    hot.watch(*QUICK, "--wait", "1")
+    (hot.folder / "half.pdf").write_bytes(version(1, 1000)[:900])
+    hot.wait(1)
+    hot.stop()
+    assert (hot.folder / "failed/half/why.txt").read_text() == "incomplete: there is no %%EOF at its end\n"
+
+
+FOLDERS = """
+[log]
+file = "watch.log"
+[[folder]]
+path = "hot"
+dpi = 72
+lenient = true
+settle = 0
+outputs = ["pdf", "plates"]
+width = "2pt"
+command = ["sh", "-c", 'echo "$PRESS_STATE $0" >>told']
+[[folder]]
+path = "other"
+dpi = 144
+lenient = true
+settle = 0
+files = 2
+done = "made"
+outputs = ["tiff"]
+"""
+
+
+def test_several_folders(room: Room, hot: Hot) -> None:
+    """A configuration file has several folders, each with its own options and kinds of output, a command and a log."""
+    room.sample("two.pdf")
+    (room / "other").mkdir()
+    room.write("watch.toml", FOLDERS)
+    for name in ("hot/a.pdf", "hot/b.pdf", "other/c.pdf"):
+        room.write(name, (room / "two.pdf").read_bytes())
+    room.write("hot/b.pdf", "no PDF")
+    hot.watch_all("--config", "watch.toml")
+    log = room / "watch.log"
+    room.wait_until(lambda: len(re.findall(": done: |: failed: ", log.read_text())) == 3, "not all is done", hot.child)
+    done = room.run("watch", "--status", "--config", "watch.toml", "--json")
+    found = [json.loads(line) for line in done.out.splitlines()]
+    room.wait_until(lambda: (room / "told").exists() and (room / "told").read_text().count("\n") == 2, "the command does not run", hot.child)
+    hot.stop()
+    assert [(one["done"], one["failed"]) for one in found] == [(1, 1), (1, 0)] and f"process {hot.child.pid} " in found[0]["watched_by"]
+    assert sorted((room / "told").read_text().splitlines()) == [f"done {hot.folder}/done/a/job.json", f"failed {hot.folder}/failed/b/job.json"]
+    assert sorted(path.name for path in (room / "hot/done/a").iterdir() if path.suffix == ".pdf") == ["a-trapped.pdf", "a.pdf"]
+    assert (room / "hot/done/a/page-001/Cyan.pgm").exists() and not (room / "hot/done/a/page-001/tiff").exists()
+    assert "/TrapWidth 2 " in (room / "hot/done/a/page-001/page.job").read_text()
+    assert (room / "made/c/page-001/tiff").is_dir() and not (room / "made/c/page-001/Cyan.pgm").exists()
+    assert "\nresolution\t144\n" in (room / "made/c/page-001/colorants.txt").read_text()
+    why = json.loads((room / "hot/failed/b/job.json").read_text())["watch"]
+    assert why["state"] == "failed" and "Ghostscript cannot read it" in why["why"][0]
+
+
+def test_json_lines(room: Room, hot: Hot) -> None:
+    """With --json the log has an object for each event, those of the run among them."""
+    room.sample("two.pdf")
+    (hot.folder / "a.pdf").write_bytes((room / "two.pdf").read_bytes())
+    hot.watch(*QUICK, "--json")
+    room.wait_until(lambda: '"event": "done"' in room.printed(), "a.pdf is not done", hot.child)
+    hot.stop()
+    lines = [json.loads(line) for line in room.printed().splitlines()]
+    assert all(one["folder"] == "hot" and one["name"] == "a.pdf" and re.match(r"\d{4}-\d\d-\d\dT", one["time"]) for one in lines)
+    assert [one["event"] for one in lines][::len(lines) - 1] == ["taken", "done"] and "page-done" in [one["event"] for one in lines]
+    assert lines[-1]["place"] == "hot/done/a"
 
 
 def test_warnings_refuse_a_file(room: Room, hot: Hot) -> None:
@@ -170,14 +276,35 @@ def same_pages(one: Path, two: Path) -> int:
     return len(pages)
 
 
-@needs("parallel")
 def test_killed_watch(room: Room, hot: Hot) -> None:
-    """Nothing of a watch that is killed outright goes on, and its file stays."""
+    """Nothing of a watch that is killed outright goes on, and its file stays claimed."""
     (room.beside / "slow-now").touch()
     hot.watch("--settle", "0", "--lenient", "--dpi", "300", env=room.slow_ghostscript("*tiffsep*-r300*"))
     (hot.folder / "big.pdf").write_bytes(LABEL.read_bytes())
     room.wait_until((room.beside / "slow-begun").exists, "big.pdf is not taken", hot.child)
     assert hot.child and room.stop(hot.child, 9) == -9
     room.rests()
-    assert (hot.folder / "big.pdf").read_bytes() == LABEL.read_bytes()
+    assert hot.claimed("big.pdf").read_bytes() == LABEL.read_bytes()
     room.clear_temporary()
+
+
+def test_usage(room: Room) -> None:
+    """Without a folder the house's watch.toml is taken, if there is one."""
+    room.refused(2, r"press-watch: DIR is missing \(see press-watch --help\)", "watch")
+    room.refused(4, r"press-watch: none: No such directory", "watch", "--status", "none")
+    (room.beside / "house/watch.toml").write_text('[[folder]]\npath = "none"\n')
+    room.refused(4, rf"press-watch: {room.beside}/house/none: No such directory", "watch")
+
+
+def test_small_soak(tmp_path: Path, built: None) -> None:
+    """A few files of three writers, with kills: the soak of watch_soak.py in small."""
+    counts = soak(tmp_path, 9, 2, 1)
+    assert counts["done"] > 0 and counts["kills"] == 2
+
+
+@pytest.mark.soak
+@pytest.mark.parametrize("seed", [1, 2, 3])
+def test_soak(tmp_path: Path, built: None, seed: int) -> None:
+    """The soak: 300 files, some of which are replaced, renamed, truncated, overwritten or withdrawn, with 30 kills."""
+    counts = soak(tmp_path, 300, 30, seed)
+    assert counts["versions"] >= 300 and counts["kills"] == 30

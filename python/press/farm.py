@@ -8,27 +8,27 @@ import shlex
 import subprocess
 import tempfile
 import time
-from collections.abc import Collection, Iterator, Sequence
-from dataclasses import dataclass
+from collections.abc import Iterator, Sequence
+from dataclasses import dataclass, replace
 
-from . import preflight, tools
-from .errors import PressError, Status, UsageError
-from .files import LOCK, head_of, locked, size_text, sweep, write_text
+from . import farm_hosts, farm_record, identity, preflight, tools
+from .errors import PressError, Status
+from .farm_log import LOG, amend_log, logged, logged_done, missing, why_lost
+from .files import LOCK, head_of, locked, scratch_folder, size_text, sweep, temporary_name
 from .findings import WARNING, refusal_for
 from .folder import JobFolder
 from .inks import open_book
 from .names import MOST_PLATES, PROCESS
 from .pdf_beside import write_for
 from .plates import MOST_SAMPLES
-from .printing import FarmLines
+from .printing import FarmLines, end_line
 from .proof import write_sheet_of_all
+from .recorded import words_from
 from .runs import HELD
 from .settings import Settings
 from .source import Source, open_source
 
-LOG, WORDS = "farm.log", "farm.words"
-# What ssh ends with if it fails itself; and which fields of the log are a page's status and signal.
-SSH_FAILED, STATUS_FIELD, SIGNAL_FIELD = "255", 6, 7
+USUAL_SECONDS = 600
 # How long a page that another machine has done may take to be seen here: so long a network's disk may keep an old list.
 LATE_SECONDS = 60
 # What of the environment a page has on another machine too. The shell is one that is everywhere: without one,
@@ -76,9 +76,19 @@ def page_memory(source: Source, settings: Settings, pages: Sequence[int]) -> int
     return most + OWN_BYTES
 
 
-def look(farm: Farm, progress: FarmLines) -> tuple[list[int], int]:
-    """Checks the whole file before any page is rendered. Answers the pages, and the bytes that the largest takes."""
-    with tempfile.TemporaryDirectory(prefix="press-") as scratch:
+@dataclass(frozen=True)
+class Plan:
+    """The pages to make, how many the file has, and the bytes of memory that the largest takes."""
+
+    pages: list[int]
+    count: int
+    need: int
+    converted: bool
+
+
+def look(farm: Farm, progress: FarmLines) -> Plan:
+    """Checks the whole file before any page is rendered."""
+    with scratch_folder() as scratch:
         source = open_source(farm.path, scratch, farm.settings.time)
         pages = list(farm.pages) or list(range(1, source.count + 1))
         found = preflight.check_file(source, farm.settings, open_book(farm.settings, farm.path), pages)
@@ -89,7 +99,7 @@ def look(farm: Farm, progress: FarmLines) -> tuple[list[int], int]:
         refusal = refusal_for(farm.path, of_file, farm.settings.strict)
         if refusal:
             raise refusal
-        return pages, page_memory(source, farm.settings, pages)
+        return Plan(pages, source.count, page_memory(source, farm.settings, pages), source.converted)
 
 
 def how_many(farm: Farm, need: int, pages: int, progress: FarmLines) -> str:
@@ -116,8 +126,9 @@ def follow(child: "subprocess.Popen[bytes]", progress: FarmLines) -> int:
                 data = os.read(key.fd, 65_536)
                 *lines, rest[key.fd] = (rest.get(key.fd, b"") + data).split(b"\n")
                 for line in lines if data else [*lines, rest[key.fd]]:
-                    if line:
-                        key.data(line.decode("utf-8", "surrogateescape"))
+                    # A line that ssh prints ends with a carriage return too.
+                    if line.rstrip(b"\r"):
+                        key.data(line.rstrip(b"\r").decode("utf-8", "surrogateescape"))
                 if not data:
                     selector.unregister(key.fileobj)
             progress.draw()
@@ -136,54 +147,23 @@ def parallel_words(farm: Farm, jobs: str, need: int) -> list[str]:
     return words + ["--resume-failed"] * farm.again
 
 
-def page_commands(farm: Farm, pages: Sequence[int]) -> Iterator[str]:
+def page_commands(farm: Farm, pages: Sequence[int], is_json: bool) -> Iterator[str]:
     """What is done for each page, for a shell and in this folder; nothing in it is parallel's to fill in,
     whatever a file is called."""
-    strict = ["--strict"] if farm.settings.strict else []
+    own = ["--strict"] * farm.settings.strict + ["--json"] * is_json
     for page in pages:
-        words = [os.path.join(tools.PRESS, "all"), f"--page={page}", f"--time={farm.settings.time}", *strict,
+        words = [os.path.join(tools.PRESS, "all"), f"--page={page}", f"--time={farm.settings.time}", *own,
                  *farm.words, "--", farm.path, farm.out]
         yield f"cd {shlex.quote(os.getcwd())} && exec {shlex.join(words)}"
 
 
-def judge_words(farm: Farm) -> None:
-    """Refuses to do pages again by other options than before, and keeps those of a new run."""
-    kept = [*farm.words, *[f"--page={','.join(map(str, farm.pages))}"] * bool(farm.pages)]
-    kept += [] if farm.settings.strict else ["--lenient"]
-    path, text = os.path.join(farm.out, WORDS), "\n".join(kept) + "\n"
-    if not farm.again:
-        write_text(path, text, "surrogateescape")
-        return
-    try:
-        with open(path, encoding="utf-8", errors="surrogateescape") as file:
-            old = file.read()
-    except FileNotFoundError as fault:
-        raise PressError(Status.INPUT, "no run was here that could be gone on with", farm.out) from fault
-    if old != text:
-        raise UsageError(f"--again: the last run here had other words: {' '.join(old.split()) or 'none'}")
-
-
-# The log
-
-def logged(out: str) -> Iterator[tuple[int, str, str, str]]:
-    """What parallel wrote down of each page that came to an end: its place among all, its machine, its status,
-    its signal."""
-    with contextlib.suppress(FileNotFoundError), open(os.path.join(out, LOG), "rb") as file:
-        for line in file:
-            fields = line.decode("utf-8", "surrogateescape").split("\t")
-            if len(fields) > SIGNAL_FIELD and fields[0].isdigit():
-                yield int(fields[0]), fields[1], fields[STATUS_FIELD], fields[SIGNAL_FIELD]
-
-
-def logged_done(out: str, pages: Sequence[int]) -> set[int]:
-    """The pages that parallel wrote down as done."""
-    return {pages[at - 1] for at, _, status, signal in logged(out) if status == signal == "0" and at <= len(pages)}
-
-
-def missing(out: str, pages: Collection[int]) -> set[int]:
-    """The pages that are not in OUT."""
-    there = set(os.listdir(out))
-    return {page for page in pages if f"page-{page:03d}" not in there}
+def go_on(farm: Farm) -> Farm:
+    """The farm with the options and pages of the last run here."""
+    options, pages = farm_record.recorded(farm.path, farm.out)
+    farm_record.need_no_other(farm.settings, farm.words, farm.pages, farm.out, options, pages)
+    settings = farm_record.settings_of_last(farm.settings, options, farm.out, USUAL_SECONDS)
+    words = words_from({name: value for name, value in options.items() if name not in ("strict", "time")}, farm.out)
+    return replace(farm, settings=settings, words=tuple(words), pages=pages)
 
 
 def lost_pages(farm: Farm, pages: Sequence[int], todo: Sequence[int], progress: FarmLines) -> dict[int, str]:
@@ -201,33 +181,6 @@ def lost_pages(farm: Farm, pages: Sequence[int], todo: Sequence[int], progress: 
             for page in todo if page not in done and page not in progress.failed}
 
 
-def why_lost(out: str, ended: bool, machine: str, status: str, signal: str) -> str:
-    """Why a page is not done."""
-    if not machine:
-        return "its end was not written down" if ended else "it was not reached"
-    machine = "this machine" if machine == ":" else machine
-    if status == SSH_FAILED:
-        return f"{machine} was lost, or cannot be reached"
-    if not status == signal == "0":
-        return f"press/all on {machine} ended with " + (status if signal == "0" else f"signal {signal}")
-    if ended:
-        return f"{machine} did it, and it does not stand in {out} here"
-    return f"{machine} began nothing, and told no reason: see to the room in its /tmp"
-
-
-def amend_log(out: str, pages: Sequence[int], lost: Collection[int]) -> None:
-    """Leaves in the log what parallel can go on with: whole lines, of which none calls a page done that is lost."""
-    path = os.path.join(out, LOG)
-    places = {str(at).encode() for at, page in enumerate(pages, 1) if page in lost}
-    with contextlib.suppress(FileNotFoundError), open(path, "rb") as file:
-        lines = [line.split(b"\t") for line in file if line.endswith(b"\n") and line.count(b"\t") > SIGNAL_FIELD]
-        for fields in lines:
-            if fields[0] in places and fields[STATUS_FIELD] == b"0":
-                fields[STATUS_FIELD] = b"1"
-        text = b"".join(b"\t".join(fields) for fields in lines)
-        write_text(path, text.decode("utf-8", "surrogateescape"), "surrogateescape")
-
-
 def begin_log(farm: Farm, pages: list[int]) -> list[int]:
     """Begins the log of a new run. One that is gone on with may have been cut by a full disk, and pages that it
     calls done may be gone. Answers the pages to do."""
@@ -240,41 +193,77 @@ def begin_log(farm: Farm, pages: list[int]) -> list[int]:
     return pages
 
 
+def environment_of(out: str) -> dict[str, str]:
+    """The environment of parallel."""
+    usual = {"HOME": os.path.expanduser("~"), "TRAP_BIN": "", "PRESS_HOUSE": ""}
+    return {**usual, **os.environ, HELD: os.path.realpath(out), "PARALLEL_SHELL": PAGE_SHELL}
+
+
 def hand_out(words: Sequence[str], commands: Iterator[str], out: str, progress: FarmLines) -> int:
     """Runs parallel over the pages. Answers its status."""
-    usual = {"HOME": os.path.expanduser("~"), "TRAP_BIN": "", "PRESS_HOUSE": ""}
-    environment = {**usual, **os.environ, HELD: os.path.realpath(out), "PARALLEL_SHELL": PAGE_SHELL}
     with tempfile.TemporaryFile() as file:
         file.write(b"".join(os.fsencode(command) + b"\0" for command in commands))
         file.seek(0)
-        with tools.running(words, stdin=file, env=environment) as child:
+        with tools.running(words, stdin=file, env=environment_of(out)) as child:
             return follow(child, progress)
+
+
+def with_hosts(farm: Farm, progress: FarmLines) -> Farm:
+    """The same farm with those machines alone that can work. A warning names each other one."""
+    if not farm.hosts:
+        return farm
+    logins = farm_hosts.logins_of(farm.hosts)
+    with tempfile.NamedTemporaryFile(prefix=temporary_name(), dir=farm.out) as token:
+        script = farm_hosts.probe_script(farm.path, farm.out, os.path.join(farm.out, os.path.basename(token.name)))
+        others = [login for login in logins if login != farm_hosts.LOCAL]
+        faults = farm_hosts.probe(others, script, FOR_PAGES, environment_of(farm.out))
+    for login, why in faults.items():
+        progress.drop(login, why)
+    return replace(farm, hosts=",".join(farm_hosts.need_one(logins, faults)))
 
 
 def run_farm(farm: Farm, progress: FarmLines) -> Status:
     """Does the pages of a file, several at once."""
     head_of(farm.path)
     tools.program("trap")
-    pages, need = look(farm, progress)
+    farm = go_on(farm) if farm.again else farm
+    given, plan = identity.Input.take(farm.path), look(farm, progress)
     tools.tool("parallel")
-    JobFolder(farm.out).make()
+    job = JobFolder(farm.out)
+    job.make()
     with locked(os.path.join(farm.out, LOCK), farm.out, "press-farm"):
         sweep(farm.out)
-        judge_words(farm)
-        todo = begin_log(farm, pages)
-        progress.total = len(todo)
-        words = parallel_words(farm, how_many(farm, need, len(todo), progress), need)
-        status = hand_out(words, page_commands(farm, pages), farm.out, progress)
-        lost = lost_pages(farm, pages, todo, progress)
-        for page, why in lost.items():
-            progress.page(f"page {page}: failed: {why} (--again does the page)")
-        if lost:
-            amend_log(farm.out, pages, lost)
+        farm = with_hosts(farm, progress)
+        if not farm.again:
+            identity.claim(job, given.file, plan.count, farm.settings, farm.pages)
+            farm_record.note_pages(farm.out, farm.pages)
+        progress.begin(plan.pages, plan.count, plan.converted)
+        has_failed = make_pages(farm, plan, progress)
+        line = given.changed_line()
+        if line:
+            for failed in identity.fail_mixed(job, sorted(set(plan.pages) - missing(farm.out, plan.pages)), line):
+                progress.page(end_line(failed))
+        identity.gather(job)
         has_pdf = not farm.settings.pdf or write_pdf(farm, progress)
         if farm.settings.proof:
             with contextlib.suppress(PressError):
                 write_sheet_of_all(farm.out, ())
-    return Status.PAGES_FAILED if status or lost or not has_pdf else Status.DONE
+    progress.end()
+    return Status.PAGES_FAILED if has_failed or line or not has_pdf else Status.DONE
+
+
+def make_pages(farm: Farm, plan: Plan, progress: FarmLines) -> bool:
+    """Makes the pages that are left to do. Answers whether some failed."""
+    todo = begin_log(farm, plan.pages)
+    progress.total = len(todo)
+    words = parallel_words(farm, how_many(farm, plan.need, len(todo), progress), plan.need)
+    status = hand_out(words, page_commands(farm, plan.pages, progress.is_json), farm.out, progress)
+    lost = lost_pages(farm, plan.pages, todo, progress)
+    for page, why in lost.items():
+        progress.page(f"page {page}: failed: {why} (--again does the page)")
+    if lost:
+        amend_log(farm.out, plan.pages, lost)
+    return bool(status or lost)
 
 
 def write_pdf(farm: Farm, progress: FarmLines) -> bool:

@@ -109,6 +109,9 @@ class FarmLines:
     """What a farm prints while pages are at work: on a terminal a bar, elsewhere a line for each page; each
     warning once."""
 
+    # Whether the pages are to print events as JSON Lines.
+    is_json = False
+
     def __init__(self, path: str, quiet: bool) -> None:
         self.path, self.quiet, self.total = path, quiet, 0
         # The pages of which an end was printed, and those that failed.
@@ -157,6 +160,16 @@ class FarmLines:
         if text not in self.warned:
             self.warned.add(text)
             complain(clean(f"press-farm: warning: {text}"))
+
+    def begin(self, pages: list[int], count: int, converted: bool) -> None:
+        """The pages to make, of so many that the file has, and whether it was PostScript."""
+
+    def drop(self, host: str, why: str) -> None:
+        """A machine that cannot work."""
+        self.warn(f"{host} is left out: {why}")
+
+    def end(self) -> None:
+        """All pages are done or failed."""
 
     def page(self, line: str) -> None:
         """A line of a page that is done."""

@@ -16,7 +16,7 @@ from .errors import PressError, Status
 
 LOG = logging.getLogger("press")
 # The Debian package of a tool or of a Python module.
-PACKAGES = {"gs": "ghostscript", "mutool": "mupdf-tools", "parallel": "parallel", "inotifywait": "inotify-tools",
+PACKAGES = {"gs": "ghostscript", "mutool": "mupdf-tools", "parallel": "parallel",
             "qpdf": "qpdf", "numpy": "python3-numpy", "PIL": "python3-pil", "pikepdf": "python3-pikepdf",
             "lxml": "python3-lxml", "tifffile": "python3-tifffile", "starlette": "python3-starlette",
             "uvicorn": "python3-uvicorn", "websockets": "python3-websockets"}
