@@ -5,11 +5,12 @@ import json
 import os
 import re
 import subprocess
+import sys
 from pathlib import Path
 
 import pytest
 from press.farm_hosts import probe_script
-from room import COMMANDS, LABEL, Room, needs
+from room import COMMANDS, LABEL, TOP, Room, needs
 from test_watch import LABEL_DPI, same_pages
 
 pytestmark = [pytest.mark.usefixtures("built"), needs("parallel", "mutool")]
@@ -229,3 +230,19 @@ def test_array_job_by_slurm(room: Room) -> None:
     assert done.returncode == 0, done
     room.goes("all", "--quiet", *LABEL_DPI, LABEL, "all")
     assert same_pages(room / "all", room / "array") == 2
+
+
+def night_rows() -> list[tuple[str, float, int, int]]:
+    """The rows of the capacity recipe: arguments, hours, and how busy processors and server are in per cent."""
+    text = (TOP / "docs" / "FARM.md").read_text(encoding="utf-8")
+    found = re.findall(r"^\| [^|]* \| `([^`]*)` \| ([\d.]+) \| (\d+) % \| (\d+) % \|$", text, re.M)
+    return [(words, float(hours), int(busy), int(server)) for words, hours, busy, server in found]
+
+
+@pytest.mark.slow
+@pytest.mark.parametrize("row", night_rows()[:3:2], ids=lambda row: str(row[0]))
+def test_capacity_recipe(row: tuple[str, float, int, int]) -> None:
+    """The table of a night's work has all arguments with which bench/night.py gives its figures. Two of its rows are run."""
+    words, hours, busy, server = row
+    done = subprocess.run([sys.executable, TOP / "bench" / "night.py", *words.split()], capture_output=True, text=True, check=True)
+    assert re.match(rf"{hours:.2f} hours, .* processors {busy}% busy, server {server}%,", done.stdout), done.stdout
