@@ -50,6 +50,8 @@ def test_total_ink_and_where(maxval: int) -> None:
     assert found.plates[0] == pytest.approx((400 + 100) / (144 * 72), rel=0.01)
     assert texts(content.ink_findings(plates, inks, 1, 3.0)) == {
         "total-ink": "360% of ink at 35, 8 mm, and the limit is 300% (--total-ink)"}
+    (one,) = content.ink_findings(plates, inks, 1, 3.0)
+    assert one.as_data()["place"] == [35.5, 7.6]
     assert not list(content.ink_findings(plates, inks, 1, 3.6))
     # Marks and patches outside the trim box are on more plates than a sheet can hold.
     assert content.coverage_of(plates, inks, Rect(5, 5, 90, 70)).total == pytest.approx(2.4, abs=0.005)
@@ -158,7 +160,7 @@ def test_a_file_that_was_trapped(tmp_path: Path) -> None:
 
     def add_net(pdf: pikepdf.Pdf) -> None:
         pdf.pages[0].obj.Annots = Array([Dictionary(Type=Name.Annot, Subtype=Name.TrapNet, Rect=[0, 0, 9, 9])])
-    for change, text in ((mark_trapped, "(/Trapped)"), (add_net, "page 1 has a trap network")):
+    for change, text in ((mark_trapped, "(/Trapped)"), (add_net, "the page has a trap network")):
         found = texts(content.file_findings(saved(tmp_path / "a.pdf", change), Settings()))
         assert text in found["already-trapped"]
     assert not list(content.file_findings(saved(tmp_path / "b.pdf", lambda pdf: None), Settings()))
@@ -217,4 +219,5 @@ def test_files_that_are_no_pdf_have_no_findings(tmp_path: Path) -> None:
 
 
 def test_places_lie_on_the_page() -> None:
-    assert content.at(content.on_page(Rect(0, 0, 10, 10), INFO, Settings())) == "at 2, 24 mm"
+    found = content.placed("hairline", 1, content.on_page(Rect(0, 0, 10, 10), INFO, Settings()), f"a line {content.AT}")
+    assert found.as_data() == {"kind": "hairline", "level": "note", "page": 1, "text": "a line at 2, 24 mm", "place": [1.8, 23.6]}

@@ -113,6 +113,10 @@ def test_json(room: Room) -> None:
     told = json.loads(check(room, "--json", "damaged.pdf"))
     assert [one["kind"] for one in told["findings"]] == ["repaired"]
     assert told["takes"][0]["width"] == 1000
+    room.sample("technical.pdf")
+    knocked = [one for one in json.loads(check(room, "--json", "technical.pdf"))["findings"] if one["kind"] == "knock-out"]
+    assert knocked and all(one["level"] == "warning" and one["page"] == 1 for one in knocked)
+    assert all(0 < side < 50 for one in knocked for side in one["place"]) and len({tuple(one["place"]) for one in knocked}) == len(knocked)
 
 
 def test_form_field_without_an_appearance(room: Room, built: None) -> None:

@@ -28,6 +28,8 @@ class Page:
     marks: float = 0
 
 
+# What is found at a place, and says so in the report for machines.
+PLACED = ("colour-space", "rich-type", "small-reverse", "hairline", "image-resolution", "thin-strokes", "total-ink", "untrapped-inks")
 RGB = ("colour-space", "thin-strokes")
 PAGES = {
     "producers/libreoffice": Page((*RGB, "images", "rich-type", "small-reverse", "hairline", "image-resolution"),
@@ -57,6 +59,7 @@ def test_pages_of_producers(room: Room, built: None, name: str) -> None:
     found = json.loads(room.goes("preflight", "--json", "--dpi", "300", path).out)["findings"]
     kinds = {one["kind"] for one in found}
     assert kinds >= set(told.found) and not any(one["level"] == "fault" for one in found), kinds
+    assert all(len(one["place"]) == 2 and one["page"] == 1 for one in found if one["kind"] in PLACED), found
     room.goes("all", path, "out", "--quiet", "--dpi", "300", "--preset", "offset", "--no-proof")
     page = PageFolder.read(str(room / "out" / "page-001"))
     before, after = (np.stack(page.plates(done).arrays) for done in (False, True))

@@ -36,6 +36,8 @@ STEM, LEAST_PIXELS = 0.08, 3.0
 # An image of less dpi is coarse.
 COARSE = 150.0
 BAND_ROWS = 256
+# Where a text has its place.
+AT = "<at>"
 
 
 @dataclass(frozen=True)
@@ -48,10 +50,15 @@ class Coverage:
     place: tuple[float, float]
 
 
-def at(rect: Rect) -> str:
-    """A place as a line names it."""
-    x, y = (rect.left + rect.right) / 2 * MILLIMETRES, (rect.lower + rect.upper) / 2 * MILLIMETRES
-    return f"at {x:.0f}, {y:.0f} mm"
+def middle_of(rect: Rect) -> tuple[float, float]:
+    """The middle of a rectangle, in millimetres."""
+    return (rect.left + rect.right) / 2 * MILLIMETRES, (rect.lower + rect.upper) / 2 * MILLIMETRES
+
+
+def placed(kind: str, page: int, rect: Rect, text: str) -> Finding:
+    """A note of a place, which stands where the text has AT."""
+    x, y = middle_of(rect)
+    return Finding(kind, NOTE, page, text.replace(AT, f"at {x:.0f}, {y:.0f} mm"), place=(x, y))
 
 
 # Ink
@@ -100,8 +107,8 @@ def ink_findings(plates: Plates, inks: Sequence[Ink], page: int, limit: float,
     found = coverage_of(plates, inks, within)
     if found.total > limit + 0.005:
         x, y = found.place
-        yield Finding("total-ink", NOTE, page, f"{100 * found.total:.0f}% of ink {at(Rect(x, y, x, y))}, and the limit "
-                      f"is {100 * limit:.0f}% (--total-ink)")
+        yield placed("total-ink", page, Rect(x, y, x, y), f"{100 * found.total:.0f}% of ink {AT}, and the limit is "
+                     f"{100 * limit:.0f}% (--total-ink)")
 
 
 def untrapped_edges(plates: Plates, inks: Sequence[Ink], page: int, step: float) -> Iterator[Finding]:
@@ -116,25 +123,35 @@ def untrapped_edges(plates: Plates, inks: Sequence[Ink], page: int, step: float)
                 continue
             if not both_opaque and float(beside.density) <= float(ink.density):
                 continue
-            edges = meeting(array, other, step * plates.maxval)
+            edges, (column, row) = meeting(array, other, step * plates.maxval)
             if edges:
                 why = "both are opaque" if both_opaque else f"{readable(ink.colorant)} is opaque and the lighter one"
                 names = f"{readable(ink.colorant)} and {readable(beside.colorant)}"
                 yield Finding("untrapped-inks", WARNING, page, f"{names} meet along {edges} edges, and none of them is "
                               f"trapped: {why}, and no trap spreads an opaque ink (--density, --kind or --role says "
-                              f"otherwise)")
+                              f"otherwise)", place=pixel_place(plates, column, row))
 
 
-def meeting(one: Array, other: Array, least: float) -> int:
-    """Between how many neighbours one plate gains ink and another loses it, each by a step."""
-    count, need = 0, max(1, int(least + 0.999))
+def meeting(one: Array, other: Array, least: float) -> tuple[int, tuple[int, int]]:
+    """Between how many neighbours one plate gains ink and another loses it, each by a step; and the first of them, its
+    column and row."""
+    count, first, need = 0, (0, 0), max(1, int(least + 0.999))
     for start in range(0, one.shape[0], BAND_ROWS):
-        first, second = (array[start:start + BAND_ROWS + 1].astype(numpy.int32) for array in (one, other))
+        planes = [array[start:start + BAND_ROWS + 1].astype(numpy.int32) for array in (one, other)]
         for axis in (0, 1):
-            rise, fall = numpy.diff(first, axis=axis), numpy.diff(second, axis=axis)
-            marks = ((rise >= need) & (fall <= -need)) | ((rise <= -need) & (fall >= need))
-            count += int(marks[:BAND_ROWS].sum())
-    return count
+            rise, fall = (numpy.diff(plane, axis=axis) for plane in planes)
+            marks = (((rise >= need) & (fall <= -need)) | ((rise <= -need) & (fall >= need)))[:BAND_ROWS]
+            if marks.any() and not count:
+                row, column = numpy.unravel_index(int(marks.argmax()), marks.shape)
+                first = int(column), start + int(row)
+            count += int(marks.sum())
+    return count, first
+
+
+def pixel_place(plates: Plates, column: int, row: int) -> tuple[float, float]:
+    """The place of a pixel in millimetres."""
+    scale = 25.4 / plates.resolution
+    return (column + 0.5) * scale, (plates.height - row - 0.5) * scale
 
 
 # What is painted
@@ -152,12 +169,12 @@ def colour_findings(trace: Trace, info: PageInfo, settings: Settings, page: int)
             others.setdefault(paint.space, paint.box)
     for space, box in sorted(others.items()):
         profile = "the profile of --icc" if settings.icc else "Ghostscript's own profile (--icc or --output-intent)"
-        yield Finding("colour-space", NOTE, page, f"colour in {readable(space.encode())} "
-                      f"{at(on_page(box, info, settings))} is separated by {profile}")
+        yield placed("colour-space", page, on_page(box, info, settings),
+                     f"colour in {readable(space.encode())} {AT} is separated by {profile}")
     for paint in trace.paints.values():
         if paint.size and is_rich_black(paint.space, paint.colour):
-            yield Finding("rich-type", NOTE, page, f"black type of {paint.size:.1f} pt is made of several inks "
-                          f"{at(on_page(paint.box, info, settings))}: out of register it has coloured rims")
+            yield placed("rich-type", page, on_page(paint.box, info, settings), f"black type of {paint.size:.1f} pt is "
+                         f"made of several inks {AT}: out of register it has coloured rims")
             break
 
 
@@ -173,12 +190,12 @@ def line_findings(trace: Trace, info: PageInfo, settings: Settings, page: int) -
     """Lines that are too thin to print, and images that are too coarse."""
     if trace.hairline and trace.hairline[0] < HAIRLINE:
         width, box = trace.hairline
-        yield Finding("hairline", NOTE, page, f"a line of {width:.2f} pt {at(on_page(box, info, settings))} may not "
-                      f"print: {HAIRLINE:g} pt is the least")
+        yield placed("hairline", page, on_page(box, info, settings),
+                     f"a line of {width:.2f} pt {AT} may not print: {HAIRLINE:g} pt is the least")
     if trace.coarsest and trace.coarsest[0] < COARSE:
         resolution, box = trace.coarsest
-        yield Finding("image-resolution", NOTE, page, f"an image has {resolution:.0f} pixels per inch "
-                      f"{at(on_page(box, info, settings))}: {COARSE:.0f} is the least")
+        yield placed("image-resolution", page, on_page(box, info, settings),
+                     f"an image has {resolution:.0f} pixels per inch {AT}: {COARSE:.0f} is the least")
 
 
 def type_findings(trace: Trace, info: PageInfo, settings: Settings, page: int) -> Iterator[Finding]:
@@ -191,9 +208,9 @@ def type_findings(trace: Trace, info: PageInfo, settings: Settings, page: int) -
     stroke = STEM * smallest.size * settings.dpi / 72
     if stroke < LEAST_PIXELS:
         enough = math.ceil(LEAST_PIXELS * 72 / (STEM * smallest.size) / 100) * 100
-        yield Finding("thin-strokes", NOTE, page, f"coloured type of {smallest.size:.1f} pt "
-                      f"{at(on_page(smallest.box, info, settings))} has strokes of about {stroke:.1f} pixels at "
-                      f"{settings.dpi} dpi: traps take its colour or leave gaps ({enough} dpi would do)")
+        yield placed("thin-strokes", page, on_page(smallest.box, info, settings), f"coloured type of "
+                     f"{smallest.size:.1f} pt {AT} has strokes of about {stroke:.1f} pixels at {settings.dpi} dpi: "
+                     f"traps take its colour or leave gaps ({enough} dpi would do)")
 
 
 def is_plain_black(space: str, colour: Sequence[float]) -> bool:
@@ -212,8 +229,8 @@ def reversed_findings(trace: Trace, plates: Plates, inks: Sequence[Ink], info: P
         box = on_page(paint.box, info, settings)
         ground = ground_inks(plates, inks, box)
         if len(ground) > 1:
-            yield Finding("small-reverse", NOTE, page, f"type of {paint.size:.1f} pt is reversed out of "
-                          f"{' + '.join(ground)} {at(box)}: out of register it fills in")
+            yield placed("small-reverse", page, box, f"type of {paint.size:.1f} pt is reversed out of "
+                         f"{' + '.join(ground)} {AT}: out of register it fills in")
             return
 
 
@@ -258,8 +275,9 @@ def trapped_findings(pdf: Any) -> Iterator[Finding]:
     nets = [number for number, page in enumerate(pdf.pages, 1) for one in page.obj.get("/Annots", [])
             if str(one.get("/Subtype", "")) == "/TrapNet"]
     if trapped in ("/True", "True", "true") or nets:
-        what = f"page {nets[0]} has a trap network" if nets else "the file says that it is (/Trapped)"
-        yield Finding("already-trapped", WARNING, None, f"trapped already: {what}; traps of traps print as rims")
+        what = "the page has a trap network" if nets else "the file says that it is (/Trapped)"
+        yield Finding("already-trapped", WARNING, nets[0] if nets else None,
+                      f"trapped already: {what}; traps of traps print as rims")
 
 
 def layer_findings(pdf: Any) -> Iterator[Finding]:

@@ -2,6 +2,7 @@
 """Findings of preflight: a fault is refused, a warning is refused by --strict, and a note is only printed."""
 from collections.abc import Iterable, Iterator
 from dataclasses import dataclass
+from typing import Any
 
 from .errors import PressError, Status
 
@@ -10,14 +11,21 @@ FAULT, WARNING, NOTE = "fault", "warning", "note"
 
 @dataclass(frozen=True)
 class Finding:
-    """Something that was found: its kind (docs/PRESS.md lists them), its level, the page from 1 or None for the
-    whole file, the text, and the status of a refusal for it."""
+    """Something that was found: its kind (docs/PREFLIGHT.md lists them), its level, the page from 1 or None for the
+    whole file, the text, the status of a refusal for it, and its place in millimetres from the lower left corner of
+    the page as it is drawn, if it has one."""
 
     kind: str
     level: str
     page: int | None
     text: str
     status: Status = Status.WARNED
+    place: tuple[float, float] | None = None
+
+    def as_data(self) -> dict[str, Any]:
+        """The finding for machines."""
+        place = {} if self.place is None else {"place": [round(side, 1) for side in self.place]}
+        return {"kind": self.kind, "level": self.level, "page": self.page, "text": self.text, **place}
 
 
 def page_ranges(pages: Iterable[int]) -> str:

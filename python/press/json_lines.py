@@ -17,7 +17,7 @@ def event_record(event: Event) -> dict[str, Any]:
     """An event as an object."""
     if isinstance(event, FindingMade):
         one = event.finding
-        return {"event": "finding", "page": one.page, "kind": one.kind, "level": one.level, "text": one.text}
+        return {"event": "finding", **one.as_data()}
     record: dict[str, Any] = {"event": NAMES[type(event)], **dataclasses.asdict(event)}
     if "seconds" in record:
         record["seconds"] = round(record["seconds"], 3)

@@ -6,7 +6,7 @@ import math
 import os
 import tempfile
 from collections.abc import Iterator, Sequence
-from dataclasses import asdict, dataclass
+from dataclasses import asdict, dataclass, replace
 
 import numpy
 
@@ -78,7 +78,7 @@ class FileReport:
 
     def as_json(self) -> str:
         """The report for machines."""
-        found = [{"kind": one.kind, "level": one.level, "page": one.page, "text": one.text} for one in self.findings]
+        found = [one.as_data() for one in self.findings]
         return json.dumps({"file": self.source.path, "converted": self.source.converted, "pages": self.source.count,
                            "resolution": self.dpi, "findings": found, "takes": [asdict(one) for one in self.needs]},
                           indent=1, ensure_ascii=True)
@@ -353,8 +353,10 @@ def ink_findings(page: Page, book: InkBook) -> Iterator[Finding]:
             yield Finding(kind, level, page.number, line)
         if ink in inked and book.is_technical(ink):
             others = [other.name for other in inked if other is not ink]
-            if knocked_out(page.rendering.plates, ink.name, others) >= KNOCK_OUT_SAMPLES:
-                yield knock_out_finding(ink, page.number)
+            count, (column, row) = knocked_out(page.rendering.plates, ink.name, others)
+            if count >= KNOCK_OUT_SAMPLES:
+                yield replace(knock_out_finding(ink, page.number),
+                              place=content.pixel_place(page.rendering.plates, column, row))
 
 
 def spelling_findings(page: Page) -> Iterator[Finding]:
@@ -384,10 +386,10 @@ def knock_out_finding(ink: Ink, page: int) -> Finding:
                    f"knocks out what lies under it, {meaning}: it should overprint where it is no ink on the sheet")
 
 
-def knocked_out(plates: Plates, technical: str, others: Sequence[str]) -> int:
+def knocked_out(plates: Plates, technical: str, others: Sequence[str]) -> tuple[int, tuple[int, int]]:
     """How many samples have a technical ink and none of the others, beside one that has others and not the
-    technical one. The plates are looked at in bands of rows."""
-    count = 0
+    technical one; and the column and row of the first one. The plates are looked at in bands of rows."""
+    count, place = 0, (0, 0)
     for first, end, top, bottom in plates.bands(BAND_ROWS, 1):
         ink = plates[technical][top:bottom]
         if not (ink <= MUCH).any():
@@ -397,9 +399,12 @@ def knocked_out(plates: Plates, technical: str, others: Sequence[str]) -> int:
             other = plates[name][top:bottom]
             much |= other <= MUCH
             some |= other < LITTLE
-        hole = (ink <= MUCH) & ~some & beside(much & (ink >= LITTLE))
-        count += int(hole[first - top:end - top].sum())
-    return count
+        hole = ((ink <= MUCH) & ~some & beside(much & (ink >= LITTLE)))[first - top:end - top]
+        if hole.any() and not count:
+            row, column = numpy.unravel_index(int(hole.argmax()), hole.shape)
+            place = int(column), first + int(row)
+        count += int(hole.sum())
+    return count, place
 
 
 def beside(marks: Array) -> Array:
