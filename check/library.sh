@@ -100,7 +100,7 @@ if sanitized page.asan address,undefined "$top/examples/library/page.c" "$librar
 fi
 if flags=$("$top/examples/library/libgs-flags"); then
   # shellcheck disable=SC2086
-  if sanitized rip.asan address,undefined "$top/examples/library/rip.c" "$library/libtrap.a" $flags; then
+  if sanitized rip.asan address,undefined "$top/examples/library/rip_gs.c" "$library/libtrap.a" $flags; then
     mkdir "$out/ripped"
     # Ghostscript's library lets some memory go only with the process.
     ASAN_OPTIONS=detect_leaks=0 "${steady[@]}" "$out/rip.asan" "$top/examples/label/label.pdf" 150 525x350 \

@@ -91,11 +91,11 @@ fi
 # Ghostscript's own raster.
 if flags=$(./libgs-flags); then
   # shellcheck disable=SC2086
-  compiled rip $flags
-  compare_rip rip "300 1050x700" Gold_Foil Label_Red
-  well "rip.c traps the two pages of the label in Ghostscript's own raster, as ${by:-page.c} does with its plates as files"
+  compiled rip_gs $flags
+  compare_rip rip_gs "300 1050x700" Gold_Foil Label_Red
+  well "rip_gs.c traps the two pages of the label in Ghostscript's own raster, as ${by:-page.c} does with its plates as files"
 else
-  skip "rip.c" "libgs and its headers (libgs-dev) are not there"
+  skip "rip_gs.c" "libgs and its headers (libgs-dev) are not there"
 fi
 
 # MuPDF's pixels, rendered band by band. Debian's library is a static one, so what it needs has to be there too.

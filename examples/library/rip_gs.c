@@ -1,5 +1,5 @@
 /* SPDX-License-Identifier: Apache-2.0 */
-/* rip IN.pdf DPI WIDTHxHEIGHT JOB FOLDER: a small RIP. Ghostscript's library renders each page of a PDF into memory, a plane for each
+/* rip_gs IN.pdf DPI WIDTHxHEIGHT JOB FOLDER: a small RIP. Ghostscript's library renders each page of a PDF into memory, a plane for each
  * colorant, and libtrap traps these planes where they lie, with the gaps that Ghostscript leaves after its rows. Nothing is copied from
  * the one to the other. A page's plates are written as FOLDER/PAGE-NAME.pgm, and its report as FOLDER/PAGE.report; with "-" in place of
  * JOB they are written as they were rendered. WIDTH and HEIGHT are the sides of every page in samples: Ghostscript 10.00 loses its
@@ -160,7 +160,7 @@ static int render(struct rip *rip, char *in, const char *dpi, const char *sides)
 }
 
 int main(int count, char **words) {
-  if (count != 6) return fprintf(stderr, "usage: rip IN.pdf DPI WIDTHxHEIGHT JOB FOLDER\n"), 2;
+  if (count != 6) return fprintf(stderr, "usage: rip_gs IN.pdf DPI WIDTHxHEIGHT JOB FOLDER\n"), 2;
   static struct rip rip;
   rip.folder = words[5];
   if (strcmp(words[4], "-")) rip.job = whole(words[4]);
