@@ -422,23 +422,23 @@ def first_of(ranks: Sequence[tuple[str, Sequence[Known | None]]], figure: str) -
 def unsure_lines(ink: Ink) -> Iterator[tuple[str, str, str]]:
     """What has to be said of an ink of which the owner did not give everything: the kind of a finding, its
     level, and the text."""
-    shown = readable(ink.colorant)
+    called = readable(ink.colorant)
     # Where the name cannot be typed, the job's spelling stands for it.
-    word = shlex.quote((shown if shown.encode() == ink.colorant else ink.name) + "=KIND")
+    word = shlex.quote((called if called.encode() == ink.colorant else ink.name) + "=KIND")
     if ink.kind_from.rank == "name":
         with_density = f" with a density of {ink.density}" if ink.role in ROLES_OF_KINDS else ""
-        yield "ink-kind", "warning", (f"{shown} is {ROLE_NAMES.get(ink.role, 'a technical ink')} by its name, and is "
+        yield "ink-kind", "warning", (f"{called} is {ROLE_NAMES.get(ink.role, 'a technical ink')} by its name, and is "
                                       f"taken as {ink.kind}{with_density} ({ink.kind_from.text}): say --kind {word}, "
                                       f"or a line of --inks")
     elif ink.kind_from.rank == "library" and ink.kind != "Normal":
-        yield "ink-kind", "warning", f"{shown} is taken as {ink.kind} ({ink.kind_from.text}): say --kind {word}"
+        yield "ink-kind", "warning", f"{called} is taken as {ink.kind} ({ink.kind_from.text}): say --kind {word}"
     if not ink.is_process and process_meant(ink.colorant):
-        yield "process-name", "warning", (f"{shown} is a spot with a plate of its own, and is called like a process "
+        yield "process-name", "warning", (f"{called} is a spot with a plate of its own, and is called like a process "
                                           f"ink: is {process_meant(ink.colorant)} meant?")
     if not tables.counts(ink.kind):
         return
     if ink.density_from.rank == "guess":
-        yield "ink-density", "warning", (f"the density of {shown} is not told; {ink.density} is a guess "
+        yield "ink-density", "warning", (f"the density of {called} is not told; {ink.density} is a guess "
                                          f"(tell it by --density or --inks)")
     elif ink.density_from.rank == "library" and not ink.is_process:
-        yield "ink-library", "note", f"the density of {shown} is {ink.density} by {ink.density_from.text}"
+        yield "ink-library", "note", f"the density of {called} is {ink.density} by {ink.density_from.text}"
