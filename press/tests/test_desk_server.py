@@ -4,6 +4,7 @@ import asyncio
 import io
 import json
 import os
+import queue
 import shutil
 import socket
 import subprocess
@@ -15,7 +16,7 @@ from pathlib import Path
 import pytest
 
 np = pytest.importorskip("numpy")
-pytest.importorskip("PIL.Image")
+image = pytest.importorskip("PIL.Image")
 testclient = pytest.importorskip("starlette.testclient")
 
 from press import engine, tools  # noqa: E402
@@ -23,6 +24,7 @@ from press.folder import PageFolder, PageSource, write_table  # noqa: E402
 from press.inks import Ink  # noqa: E402
 from press.job import write_job  # noqa: E402
 from press.job_language import read_job  # noqa: E402
+from press.picture import Painter  # noqa: E402
 from press.plates import write_pgm  # noqa: E402
 from press.settings import Settings  # noqa: E402
 
@@ -34,7 +36,9 @@ if LIBRARY:
 
 from press.desk.guard import LOOPBACK, allowed_hosts  # noqa: E402
 from press.desk.page import DeskPage  # noqa: E402
-from press.desk.server import application  # noqa: E402
+from press.desk import runs  # noqa: E402
+from press.desk.job_queue import TooMuch  # noqa: E402
+from press.desk.server import application, in_time  # noqa: E402
 from press.desk.said import digest_of
 from press.desk.store import Store  # noqa: E402
 from press.desk.uploads import colorants_of, plain_name  # noqa: E402
@@ -704,3 +708,61 @@ def test_tables_of_an_edited_page_make_the_same_page(client, folder, tmp_path):
     found, wanted = ([one for one in job.zones if one.parameters.enabled] for job in (theirs, ours))
     assert len(found) > 3 and [one.parameters for one in found] == [one.parameters for one in wanted]
     assert [one.subpaths for one in found] == [one.subpaths for one in wanted]
+
+
+def test_an_upload_that_stalls_is_given_up():
+    """It would hold one of the few places for files that arrive."""
+    async def parts(count):
+        for _ in range(count):
+            yield b"some"
+        await asyncio.sleep(SECONDS)
+
+    async def taken(idle, total):
+        return [part async for part in in_time(parts(2), idle, total)]
+    for idle, total in ((0.05, SECONDS), (SECONDS, 0.05)):
+        with pytest.raises(TooMuch):
+            asyncio.run(taken(idle, total))
+
+    async def whole():
+        async def two():
+            yield b"a"
+            yield b"b"
+        return [part async for part in in_time(two(), SECONDS, SECONDS)]
+    assert asyncio.run(whole()) == [b"a", b"b"]
+
+
+PROFILES = [path for folder in ("/usr/share/color/icc", "/usr/share/ghostscript")
+            for path in sorted(Path(folder).rglob("default_cmyk.icc")) if Path(folder).is_dir()]
+
+
+@pytest.mark.skipif(not PROFILES, reason="Ghostscript's CMYK profile is not there")
+def test_a_soft_proof_has_the_colours_of_the_profile(folder):
+    """Those of press/look's painter, at 1:1 and in tiles."""
+    profile = str(PROFILES[0])
+    app = application(Store(str(folder), profile), allowed_hosts(LOOPBACK, PORT))
+    painter = Painter(PageFolder.read(str(folder / "made" / "page-001")), True)
+    wanted = painter.by_profile(painter.after, profile)
+    with testclient.TestClient(app, base_url=BASE, headers={"origin": BASE}) as client:
+        key = page_of(client)
+        assert client.get(f"/api/pages/{key}").json()["canSoftProof"]
+        found = view(client, key, left=0, top=0, width=WIDTH, height=HEIGHT, soft=True)
+        assert np.array_equal(found.view("u1").reshape(HEIGHT, WIDTH, 4)[..., :3], wanted)
+        assert not np.array_equal(found, view(client, key, left=0, top=0, width=WIDTH, height=HEIGHT))
+        tile = client.get(f"/api/pages/{key}/tiles/after/v/15/0/0/0?soft")
+        assert np.array_equal(np.asarray(image.open(io.BytesIO(tile.content)).convert("RGB")), wanted)
+
+
+def test_a_large_page_shows_its_progress(folder, monkeypatch):
+    """By the share of its plates that is written."""
+    monkeypatch.setattr(runs, "LARGE", 0)
+    monkeypatch.setattr(runs, "PROGRESS_SECONDS", 0.02)
+    heard = queue.Queue()
+    page = DeskPage(str(folder / "made" / "page-001"))
+    run = runs.PageRun(page, lambda **event: heard.put(event))
+    made = Path(page.folder.path) / ".press-1-made"
+    made.mkdir()
+    (made / "Cyan.pgm").write_bytes(bytes(2 * WIDTH * HEIGHT))
+    with run._progress(run.wanted):  # pylint: disable=protected-access
+        event = heard.get(timeout=SECONDS)
+    run.close()
+    assert event["kind"] == "progress" and event["share"] == 2 / len(page.inked) and "67%" in event["text"]

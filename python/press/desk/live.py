@@ -12,8 +12,9 @@ from dataclasses import dataclass
 from typing import Any
 
 import numpy as np
-import trapping
 from numpy.typing import NDArray
+
+import trapping
 
 Plane = NDArray[Any]
 
@@ -77,8 +78,8 @@ class LivePage:
         """Traps some rows of a part and puts them into its planes."""
         (left, top, width), (first, last) = corner, rows
         x0, x1 = max(0, left - halo) // self.step * self.step, min(self.width, left + width + halo)
-        y0, below = max(0, top + first - halo), max(0, self.height - (top + last + halo))
-        y1 = self.height - below // self.step * self.step
+        y0 = max(0, top + first - halo)
+        y1 = self.height - max(0, self.height - (top + last + halo)) // self.step * self.step
         window = self.tints(x0, y0, x1 - x0, y1 - y0)
         core = left - x0, top + first - y0, width, last - first
         trapping.trap_window(job, [self.names[k] for k in self.inked], window, sheet=(self.width, self.height),

@@ -89,7 +89,7 @@ class PageRun:
         return started
 
     def _run(self, asked: int) -> None:
-        while not SLOTS.acquire(timeout=SLOT_SECONDS):
+        while not SLOTS.acquire(timeout=SLOT_SECONDS):  # pylint: disable=consider-using-with
             if not self._is_wanted(asked):
                 return
         try:

@@ -12,8 +12,9 @@ import webbrowser
 from collections.abc import Callable
 from dataclasses import dataclass
 
-import trapping
 import uvicorn
+
+import trapping
 
 from press import tools
 from press.errors import PressError, Status, UsageError, reason

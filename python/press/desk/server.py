@@ -5,14 +5,15 @@ Ids are the only way to a job or a page: no name that a browser sends becomes pa
 """
 from __future__ import annotations
 
+import asyncio
 import json
 import shutil
+import time
 from collections.abc import AsyncIterator, Awaitable, Callable
 from contextlib import asynccontextmanager
 from pathlib import Path
 from typing import Any
 
-import trapping
 from starlette.applications import Starlette
 from starlette.background import BackgroundTask
 from starlette.concurrency import run_in_threadpool
@@ -21,6 +22,8 @@ from starlette.responses import FileResponse, JSONResponse, Response
 from starlette.routing import Mount, Route, WebSocketRoute
 from starlette.staticfiles import StaticFiles
 from starlette.types import ASGIApp
+
+import trapping
 
 from press.errors import PressError
 
@@ -37,6 +40,7 @@ STATIC = Path(__file__).parent / "static"
 LEAFLET = Path("/usr/share/javascript/leaflet")
 MOST_BODY = 1 << 20
 MOST_LEVEL = 20
+SECONDS_OF_PART, SECONDS_OF_UPLOAD = 60.0, 3600.0
 
 Handler = Callable[[Request], Awaitable[Response]]
 
@@ -77,6 +81,18 @@ async def json_body(request: Request) -> dict[str, Any]:
     return said
 
 
+async def in_time(parts: AsyncIterator[bytes], idle: float, total: float) -> AsyncIterator[bytes]:
+    """The parts of an upload. Raises TooMuch if none comes for `idle` seconds, or not all in `total` seconds."""
+    end = time.monotonic() + total
+    try:
+        while True:
+            yield await asyncio.wait_for(anext(parts), min(idle, end - time.monotonic()))
+    except StopAsyncIteration:
+        return
+    except asyncio.TimeoutError as slow:
+        raise TooMuch("the file takes too long to arrive") from slow
+
+
 class Server:
     """The routes over a store of jobs."""
 
@@ -94,7 +110,7 @@ class Server:
         query = request.query_params
         upload = self.store.begin_upload(query.get("name", ""), SetOf.of_query(query))
         try:
-            async for part in request.stream():
+            async for part in in_time(request.stream(), SECONDS_OF_PART, SECONDS_OF_UPLOAD):
                 upload.write(part)
             return JSONResponse({"id": upload.finish()})
         finally:

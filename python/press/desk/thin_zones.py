@@ -78,8 +78,8 @@ def rule_of(job: Job, edits: Edits) -> str:
 
 
 def composed(original: bytes, edits: Edits, places: Places, size: tuple[float, float]) -> str:
-    """The statements of the zones of thin strokes, never wider than the zone below, and none in zones that are off. `size`
-    is that of the page in points."""
+    """The statements of the zones of thin strokes, never wider than the zone below, and none in zones that are off.
+    `size` is that of the page in points."""
     text = below_thin(original, edits)
     *below, last = read_job(text[:thin_place(text)] + b"\nnewpath 0 0 moveto settrapzone").zones[1:]
     right, upper = (round(side * SCALE) for side in size)
