@@ -44,9 +44,9 @@ def program_path(name: str) -> Path | None:
 
 @pytest.fixture(scope="session", name="programs")
 def fixture_programs(tmp_path_factory: pytest.TempPathFactory) -> Path:
-    """A folder with the programs trap and presscheck. trapsheet is left out: what goes by it is tested by itself."""
+    """A folder with the programs of the press room."""
     folder = tmp_path_factory.mktemp("programs")
-    for name in ("trap", "presscheck"):
+    for name in ("trap", "trapsheet", "presscheck"):
         place = program_path(name)
         if place:
             (folder / name).symlink_to(place)
@@ -147,9 +147,9 @@ def fixture_trapped_two(room: Room, pages: Pages) -> Path:
 
 @pytest.fixture(name="built", autouse=False)
 def fixture_built(programs: Path) -> None:
-    """Skips a test where the program trap is not there."""
-    if not (programs / "trap").exists():
-        pytest.skip("the program trap is not built")
+    """Skips a test where the program trapsheet is not there."""
+    if not (programs / "trapsheet").exists():
+        pytest.skip("the program trapsheet is not built")
 
 
 def pytest_runtest_setup(item: pytest.Item) -> None:

@@ -1,11 +1,10 @@
 # SPDX-License-Identifier: Apache-2.0
 """Pages through the programs of traps: what is trapped, what is handed to them, and what they refuse."""
 import filecmp
-import os
+import re
 from pathlib import Path
 
 import pytest
-from conftest import program_path
 from room import Room
 
 
@@ -33,7 +32,7 @@ def test_fault_in_the_job(room: Room, two: Path, built: None) -> None:
     text = job.read_text()
     line = text[:text.index("showpage")].count("\n") + 1
     job.write_text(text.replace("showpage", "<< /TrapWidth 0 >> settrapparams\nshowpage"))
-    room.refused(9, rf'press-trap: two/page\.job: line {line}: trap ended with 3: "job: OutOfRange TrapWidth at [0-9]*"', "trap", "two")
+    room.refused(9, rf'press-trap: two/page\.job: line {line}: trapsheet ended with 3: "job: OutOfRange TrapWidth at [0-9]*"', "trap", "two")
 
 
 def test_earlier_result_stays(room: Room, trapped_two: Path, built: None) -> None:
@@ -45,32 +44,38 @@ def test_earlier_result_stays(room: Room, trapped_two: Path, built: None) -> Non
     assert done.status == 9 and room.state() == before, done
 
 
-@pytest.fixture(name="with_sheets")
-def fixture_with_sheets(room: Room, programs: Path, built: None) -> dict[str, str]:
-    """The environment with the program trapsheet."""
-    sheets = program_path("trapsheet")
-    if sheets is None:
-        pytest.skip("the program trapsheet is not built")
-    folder = room.beside / "with-sheets"
-    folder.mkdir()
-    for name in os.listdir(programs):
-        (folder / name).symlink_to((programs / name).resolve())
-    (folder / "trapsheet").symlink_to(sheets)
-    return {"TRAP_BIN": str(folder)}
+def test_trap_page_makes_the_same(room: Room, two: Path, built: None) -> None:
+    """What `trap page` makes of a page is what trapsheet makes of it; a fault then names that program."""
+    if not (room.programs / "trap").exists():
+        pytest.skip("the program trap is not built")
+    assert two.is_dir()
+    room.goes("trap", "two")
+    first = {path.name: path.read_bytes() for path in (room / "two/trapped").iterdir()}
+    room.script("trapsheet", "#!/bin/sh\nexit 5\n")
+    (room.beside / "stand-ins" / "trap").symlink_to((room.programs / "trap").resolve())
+    only_page = {"TRAP_BIN": str(room.beside / "stand-ins")}
+    for option in (["--trap-page"], ["--band", "64"]):
+        room.goes("trap", "two", *option, env=only_page)
+        assert {path.name: path.read_bytes() for path in (room / "two/trapped").iterdir()} == first
+    room.refused(9, "press-trap: two: trapsheet ended with 5: .*", "trap", "two", env=only_page)
 
 
-def test_large_pages_go_by_trapsheet(room: Room, with_sheets: dict[str, str]) -> None:
-    """A page that is too large for trap goes by trapsheet."""
+def test_large_pages(room: Room, built: None) -> None:
+    """A page that is too large for `trap page` is trapped by trapsheet, and refused with --trap-page by the resolution that fits."""
     room.sample("wide.pdf")
-    room.goes("all", "--quiet", "wide.pdf", "sheet", env=with_sheets)
+    room.goes("all", "--quiet", "wide.pdf", "sheet")
     assert "page 16667 17 255 plates 1\n" in (room / "sheet/page-001/trapped/report").read_text()
+    room.refused(7, r"press-trap: sheet/page-001: 16667 by 17 samples .* \(at most 589 pixels per inch fit here\)", "trap", "sheet/page-001",
+                 "--trap-page")
+    done = room.run("all", "--quiet", "--trap-page", "wide.pdf", "page")
+    assert done.status == 1 and re.search(r"failed: .*16667 by 17 samples, .* \(at most 589 pixels per inch fit here\)", done.out), done
 
 
-def test_large_pages_are_not_checked(room: Room, with_sheets: dict[str, str]) -> None:
+def test_large_pages_are_not_checked(room: Room, programs: Path, built: None) -> None:
     """presscheck takes no such page, which is warned of."""
-    if not (Path(with_sheets["TRAP_BIN"]) / "presscheck").exists():
+    if not (programs / "presscheck").exists():
         pytest.skip("the program presscheck is not built")
     room.sample("wide.pdf")
-    told = room.goes("all", "--quiet", "--check", "1", "wide.pdf", "sheet", env=with_sheets).err
+    told = room.goes("all", "--quiet", "--check", "1", "wide.pdf", "sheet").err
     assert "presscheck takes no page of this size: not checked" in told
     assert (room / "sheet/page-001/trapped/report").stat().st_size > 0

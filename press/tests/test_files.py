@@ -112,7 +112,7 @@ def test_disk_that_fills_while_pages_are_made(room: Room, small_disk: Path, buil
     """The page that finds no room names its file and the system's reason, and leaves its line alone. Finished pages stay and are
     listed, and the others are tried."""
     pdf(str(room / "job.pdf"), [page([], "1 0 0 0 k 10 10 40 28 re f 0 1 0 0 k 50 10 40 28 re f")] * 3)
-    room.script("trap", FILLS.format(disk=small_disk, program=os.path.realpath(room.programs / "trap")))
+    room.script("trapsheet", FILLS.format(disk=small_disk, program=os.path.realpath(room.programs / "trapsheet")))
     done = room.run("all", "--quiet", "--dpi", "72", "job.pdf", small_disk / "out", env={"TRAP_BIN": str(room.beside / "stand-ins")})
     assert done.status == 1 and [line.partition(": ")[2][:6] for line in done.out.splitlines()] == ["done: ", "failed", "failed"], done
     assert re.search(rf"^page 2: failed: press-\w+: {small_disk}/out/page-002\.failed\S*: No space left on device", done.out, re.MULTILINE), done

@@ -138,8 +138,8 @@ def test_a_page_of_other_bytes(room: Room) -> None:
 
 def replaced_by(room: Room, moment: str) -> dict[str, str]:
     """The environment of a run in which the PDF is replaced when page 2 is trapped, in place or by a new file."""
-    program = os.path.realpath(room.programs / "trap")
-    room.script("trap", f'#!/bin/sh\ncase "$*" in *page.job*) if grep -q "Page 2 of" page.job; then {moment}; fi ;; esac\nexec "{program}" "$@"\n')
+    program = os.path.realpath(room.programs / "trapsheet")
+    room.script("trapsheet", f'#!/bin/sh\ncase "$*" in *page.job*) if grep -q "Page 2 of" page.job; then {moment}; fi ;; esac\nexec "{program}" "$@"\n')
     return {"TRAP_BIN": str(room.beside / "stand-ins")}
 
 

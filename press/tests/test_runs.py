@@ -50,7 +50,7 @@ def test_pages_at_once(room: Room) -> None:
 def test_lost_page(room: Room, jobs: str) -> None:
     """A page whose process is killed fails with a line that says so; the other pages are done."""
     room.sample("three.pdf")
-    room.script("trap", KILLS.format(program=os.path.realpath(room.programs / "trap")))
+    room.script("trapsheet", KILLS.format(program=os.path.realpath(room.programs / "trapsheet")))
     done = room.run("all", "--quiet", "--no-proof", "--dpi", "72", "--jobs", jobs, "three.pdf", "out",
                     env={"TRAP_BIN": str(room.beside / "stand-ins")})
     assert done.status == 1, done

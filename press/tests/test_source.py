@@ -55,11 +55,9 @@ def test_tables_in_other_encodings(room: Room) -> None:
 
 @pytest.mark.quick
 def test_pages_that_are_too_much(room: Room) -> None:
-    """Too many colorants, and a page that is too large for trap, are refused with the resolution that fits."""
-    room.sample("many.pdf", "wide.pdf")
+    """Too many colorants are refused."""
+    room.sample("many.pdf")
     room.refused(7, r"press-plates: many\.pdf: page 1: 17 colorants, .*", "plates", "many.pdf", "new")
-    room.refused(7, r"press-plates: wide\.pdf: page 1: 16667 by 17 samples, .* \(at most 589 pixels per inch fit here\)",
-                 "plates", "wide.pdf", "new")
 
 
 @pytest.mark.quick

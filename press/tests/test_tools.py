@@ -26,11 +26,11 @@ def test_no_converters(room: Room, two: Path) -> None:
 
 
 def test_missing_programs(room: Room, two: Path) -> None:
-    """The programs trap and presscheck are looked for in TRAP_BIN alone where that is set."""
+    """The programs trapsheet and presscheck are looked for in TRAP_BIN alone where that is set."""
     assert two.is_dir()
-    room.refused(3, r"press-trap: the program trap is not there: no /none/trap", "trap", "two", env={"TRAP_BIN": "/none"})
-    room.refused(3, r"press-all: the program trap is not there: .*", "all", "two.pdf", "new", env={"TRAP_BIN": "/none"})
-    room.script("trap", "#!/bin/sh\n")
+    room.refused(3, r"press-trap: the program trapsheet is not there: no /none/trapsheet", "trap", "two", env={"TRAP_BIN": "/none"})
+    room.refused(3, r"press-all: the program trapsheet is not there: .*", "all", "two.pdf", "new", env={"TRAP_BIN": "/none"})
+    room.script("trapsheet", "#!/bin/sh\n")
     room.refused(3, r"press-trap: the program presscheck is not there: .*", "trap", "two", "--check", "1",
                  env={"TRAP_BIN": str(room.beside / "stand-ins")})
 
@@ -45,16 +45,16 @@ def test_missing_python_library(room: Room, two: Path) -> None:
 
 
 def test_repository_without_built_programs(room: Room, two: Path) -> None:
-    """In a repository where trap is not built, none is built, and the line says what to do."""
+    """In a repository where trapsheet is not built, none is built, and the line says what to do."""
     assert two.is_dir()
     fresh = room.beside / "fresh"
-    for name in ("crates/trap", "press", "tools", "bin"):
+    for name in ("crates/trapsheet", "press", "tools", "bin"):
         (fresh / name).mkdir(parents=True)
     for name in ("VERSION", "programs.txt", "crates.txt", "press/trap", "tools/program"):
         shutil.copy(TOP / name, fresh / name)
     shutil.copytree(TOP / "python" / "press", fresh / "python" / "press", ignore=shutil.ignore_patterns("__pycache__", "desk"))
-    (fresh / "bin" / "trap").write_text('#!/bin/sh\ntouch "${0%/*}/ran"\nexit 2\n')
-    (fresh / "bin" / "trap").chmod(0o755)
-    room.refused(3, r"press-trap: the program trap is not built yet: /.*/fresh/bin/trap does it, .*; or TRAP_BIN names .*",
-                 fresh / "press" / "trap", "two", env={"TRAP_BIN": None, **room.without("trap")})
+    (fresh / "bin" / "trapsheet").write_text('#!/bin/sh\ntouch "${0%/*}/ran"\nexit 2\n')
+    (fresh / "bin" / "trapsheet").chmod(0o755)
+    room.refused(3, r"press-trap: the program trapsheet is not built yet: /.*/fresh/bin/trapsheet does it, .*; or TRAP_BIN names .*",
+                 fresh / "press" / "trap", "two", env={"TRAP_BIN": None, **room.without("trapsheet")})
     assert not (fresh / "ran").exists(), "a program was built without being asked for"

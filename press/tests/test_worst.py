@@ -9,7 +9,6 @@ from pathlib import Path
 
 import pytest
 import worst_files
-from conftest import program_path
 from room import TOP, Room, there
 
 pytestmark = [pytest.mark.worst, pytest.mark.usefixtures("built")]
@@ -39,18 +38,10 @@ def draw_sheet(sheet: Path, picture: Path) -> None:
 @pytest.mark.parametrize("name", NAMES)
 def test_hostile_file(room: Room, hostile: Path, request: pytest.FixtureRequest, name: str) -> None:
     """The file goes the whole way, or is refused with its status, and never with a traceback."""
-    sheets = program_path("trapsheet")
-    if name == "b2-full.pdf" and not sheets:
-        pytest.skip("the program trapsheet is not built")
-    folder = room.beside / "all-programs"
-    shutil.copytree(room.environment["TRAP_BIN"], folder, symlinks=True)
-    if sheets:
-        (folder / "trapsheet").symlink_to(sheets)
     out = OUT / name
     shutil.rmtree(out, ignore_errors=True)
     out.mkdir(parents=True)
-    done = room.run("all", "--quiet", "--dpi", request.config.getoption("--worst-dpi"), name, out / "all", cwd=hostile,
-                    env={"TRAP_BIN": str(folder)})
+    done = room.run("all", "--quiet", "--dpi", request.config.getoption("--worst-dpi"), name, out / "all", cwd=hostile)
     assert done.status == NAMES[name] and "Traceback" not in done.out + done.err, done
     if there("chromium") and (out / "all/proof.html").exists():
         draw_sheet(out / "all/proof.html", out / "proof.png")

@@ -18,10 +18,12 @@ from .folder import CHECK, JOB, JSON, REPORT, TRAPPED, PageFolder, read_layout
 from .inks import Ink
 from .job import Job, file_place, job_place
 from .names import readable
-from .plates import LONGEST_SIDE, MOST_SAMPLES, fits_page
+from .plates import LONGEST_SHEET_SIDE, LONGEST_SIDE, MOST_SAMPLES, fits_page
 from .settings import Settings
 
 USUAL_THREADS = 4
+# The program that traps pages; and the one that --trap-page asks for.
+PROGRAM, PAGE_PROGRAM = "trapsheet", "trap"
 AT = re.compile(r"job: .* at (\d+)")
 Started = Callable[["subprocess.Popen[bytes]"], None]
 
@@ -73,14 +75,14 @@ def read_report(folder: str) -> Report:
 def judge(job: Job, names: Sequence[str]) -> None:
     """Refuses a job that the program does not take, by the file and the line that have the fault. The program
     is run over plates of one sample."""
-    path = tools.program("trap")
+    path = tools.program(PROGRAM)
     with scratch_folder() as folder:
         with open(os.path.join(folder, "job"), "wb") as file:
             file.write(job.text)
         with open(os.path.join(folder, "plate"), "wb") as file:
             file.write(b"P5\n1 1\n255\n\xff")
         plates = [f"{name}:plate:out{at}" for at, name in enumerate(names)]
-        done = tools.run([path, "page", "job", "report", *plates], cwd=folder)
+        done = tools.run([path, "1", "job", "report", *plates], cwd=folder)
     if done.returncode == 0:
         return
     line = tools.last_line(done)
@@ -102,25 +104,32 @@ def most_dpi(size: tuple[float, float], inked: int, longest: int, most: int | No
     return max(1, int(min(by_side, by_samples)))
 
 
-def trapper_of(page: PageFolder) -> str:
-    """The program that traps a page of this size: trap, or for larger ones trapsheet. Refuses a page that is
-    too large for trap where trapsheet is not there."""
+def trapping_program(settings: Settings) -> str:
+    """The name of the program that traps pages. Refuses if it is not there."""
+    name = PAGE_PROGRAM if settings.by_page_program else PROGRAM
+    tools.program(name)
+    return name
+
+
+def trapper_of(page: PageFolder, settings: Settings) -> str:
+    """The program that traps a page: trapsheet, or by --trap-page or --band `trap page`. Refuses a page that is too
+    large for it."""
     (width, height), inked, dpi = (page.head.width, page.head.height), len(page.inked), page.source.resolution
-    if fits_page(width, height, inked):
-        tools.program("trap")
-        return "trap"
-    if tools.has_program("trapsheet"):
-        return "trapsheet"
-    fits = most_dpi((width / dpi * 72, height / dpi * 72), inked, LONGEST_SIDE, MOST_SAMPLES)
-    raise PressError(Status.PLATES, f"{width} by {height} samples in {inked} plates with ink are "
-                     f"{width * height * inked}, and a page has at most {MOST_SAMPLES}, and {LONGEST_SIDE} a side (at "
-                     f"most {min(fits, dpi)} pixels per inch fit here)", page.path)
+    by_page = settings.by_page_program
+    if fits_page(width, height, inked) if by_page else max(width, height) <= LONGEST_SHEET_SIDE:
+        return trapping_program(settings)
+    longest, most = (LONGEST_SIDE, MOST_SAMPLES) if by_page else (LONGEST_SHEET_SIDE, None)
+    fits = most_dpi((width / dpi * 72, height / dpi * 72), inked, longest, most)
+    limit = f"are {width * height * inked}, and a page has at most {most}, and {longest} a side" if by_page else \
+        f"are too many: a side has at most {longest}"
+    raise PressError(Status.PLATES, f"{width} by {height} samples in {inked} plates with ink {limit} (at most "
+                     f"{min(fits, dpi)} pixels per inch fit here)", page.path)
 
 
 def words_of(name: str, page: PageFolder, out: str, settings: Settings) -> list[str]:
     """The arguments of a trapping program."""
-    words = ["page"] if name == "trap" else [str(settings.workers or USUAL_THREADS)]
-    if name == "trap":
+    words = ["page"] if name == PAGE_PROGRAM else [str(settings.workers or USUAL_THREADS)]
+    if name == PAGE_PROGRAM:
         for option, value in (("--workers", settings.workers), ("--band", settings.band)):
             words += [option, str(value)] if value is not None else []
     return [*words, JOB, os.path.join(out, REPORT),
@@ -160,7 +169,7 @@ def trap(page: PageFolder, settings: Settings, started: Started | None = None) -
     into its folder "trapped", in place of what was there. `started` gets the trapping program's process."""
     if not os.path.isfile(page.file(JOB)):
         raise PressError(Status.INPUT, "No such file", page.file(JOB))
-    name = trapper_of(page)
+    name = trapper_of(page, settings)
     if settings.check is not None:
         tools.program("presscheck")
     with folder_beside(page.path, inside=True) as made:

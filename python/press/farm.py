@@ -11,7 +11,7 @@ import time
 from collections.abc import Iterator, Sequence
 from dataclasses import dataclass, replace
 
-from . import farm_hosts, farm_record, identity, preflight, tools
+from . import engine, farm_hosts, farm_record, identity, preflight, tools
 from .errors import PressError, Status
 from .farm_log import LOG, amend_log, logged, logged_done, missing, why_lost
 from .files import LOCK, head_of, locked, scratch_folder, size_text, sweep, temporary_name
@@ -20,7 +20,6 @@ from .folder import JobFolder
 from .inks import open_book
 from .names import MOST_PLATES, PROCESS
 from .pdf_beside import write_for
-from .plates import MOST_SAMPLES
 from .printing import FarmLines, end_line
 from .proof import write_sheet_of_all
 from .recorded import words_from
@@ -70,9 +69,7 @@ def page_memory(source: Source, settings: Settings, pages: Sequence[int]) -> int
         if info:
             width, height = info.samples(settings.box, settings.dpi)
             plates = min(MOST_PLATES, len(PROCESS) + len(info.spots))
-            samples = width * height * plates
-            large = samples > MOST_SAMPLES
-            most = max(most, preflight.sheet_memory(width, plates) if large else samples * preflight.TABLE_BYTES)
+            most = max(most, preflight.trapping_memory(settings, width, height, plates))
     return most + OWN_BYTES
 
 
@@ -225,8 +222,8 @@ def with_hosts(farm: Farm, progress: FarmLines) -> Farm:
 def run_farm(farm: Farm, progress: FarmLines) -> Status:
     """Does the pages of a file, several at once."""
     head_of(farm.path)
-    tools.program("trap")
     farm = go_on(farm) if farm.again else farm
+    engine.trapping_program(farm.settings)
     given, plan = identity.Input.take(farm.path), look(farm, progress)
     tools.tool("parallel")
     job = JobFolder(farm.out)

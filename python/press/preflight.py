@@ -10,7 +10,7 @@ from dataclasses import asdict, dataclass, replace
 
 import numpy
 
-from . import content, engine, files, images, job, owner_files, precedence, tools
+from . import content, engine, files, images, job, owner_files, precedence
 from .errors import PressError, Status
 from .fields import OF_FIELDS, fields_without_appearance
 from .files import BYTE_ORDER_MARK, bytes_of, free_room, scratch_folder, size_text
@@ -22,7 +22,7 @@ from .layout import box_line, layer_lines, trap_box
 from .names import MOST_PLATES, PROCESS, job_names, readable
 from .page import Page, layout_of, lost_edits, option_edits, prepare, room_line
 from .pairs import pairs_file, read_pairs
-from .plates import LONGEST_SHEET_SIDE, LONGEST_SIDE, MOST_SAMPLES, Array, Plates, fits_page
+from .plates import LONGEST_SHEET_SIDE, LONGEST_SIDE, MOST_SAMPLES, Array, Plates
 from .settings import Settings, house_file
 from .source import BOX_NAMES, PageInfo, Source, is_empty, lacks_box, open_source
 from .tables import counts
@@ -31,9 +31,11 @@ from .tables import counts
 # one without a size at so few.
 SMALL_SAMPLES, SMALL_DPI, LEAST_DPI = 500_000, 72, 10
 # What a page takes, as measured on pages of a label and of A4 (docs/FARM.md): CPU seconds from PDF to proof, for a
-# page and for a sample; bytes a sample in trap's table; and of trapsheet bytes for each sample of a strip.
+# page and for a sample; bytes a sample in the table of `trap page`; and of trapsheet bytes for each sample of a strip.
 SECONDS_A_PAGE, SECONDS_A_SAMPLE, TABLE_BYTES, STRIP_BYTES = 2.5, 1e-7, 12, 15
 STRIP_ROWS, LEAST_STRIP_ROWS, STRIP_SAMPLES = 128, 32, 67_108_864
+# A strip has twice the rows if the samples of a row in all plates are no more than this.
+NARROW = 32_768
 # From which tint on a sample has ink, and below which it has none, if one ink knocks out others: full ink is 0.
 MUCH, LITTLE = 127, 250
 KNOCK_OUT_SAMPLES, BAND_ROWS = 3, 256
@@ -168,10 +170,7 @@ def box_findings(info: PageInfo, box: str, page: int) -> Iterator[Finding]:
 def size_finding(info: PageInfo, settings: Settings, page: int, inked: int) -> Finding | None:
     """That a page of so many plates with ink is more than can be trapped, and the resolution that fits."""
     width, height = info.samples(settings.box, settings.dpi)
-    if fits_page(width, height, inked):
-        return None
-    with_sheets = tools.has_program("trapsheet")
-    longest, most = (LONGEST_SHEET_SIDE, None) if with_sheets else (LONGEST_SIDE, MOST_SAMPLES)
+    longest, most = (LONGEST_SIDE, MOST_SAMPLES) if settings.by_page_program else (LONGEST_SHEET_SIDE, None)
     most_dpi = engine.most_dpi(info.size(settings.box), inked, longest, most)
     fits = f"at most {most_dpi} pixels per inch fit here"
     if max(width, height) > longest:
@@ -421,16 +420,23 @@ def beside(marks: Array) -> Array:
 
 def sheet_memory(width: int, plates: int) -> int:
     """The bytes that trapsheet takes: they grow with the width and the plates, and not with the height. Strips
-    of wide sheets have fewer rows."""
+    of wide sheets have fewer rows, and those of narrow ones more."""
     row = width * max(plates, 1)
+    if row <= NARROW:
+        return STRIP_BYTES * row * 2 * STRIP_ROWS
     return STRIP_BYTES * row * min(STRIP_ROWS, max(LEAST_STRIP_ROWS, STRIP_SAMPLES // row))
+
+
+def trapping_memory(settings: Settings, width: int, height: int, plates: int) -> int:
+    """The bytes that the trapping program takes for a page of so many plates with ink."""
+    return width * height * plates * TABLE_BYTES if settings.by_page_program else sheet_memory(width, plates)
 
 
 def needs_of(info: PageInfo, settings: Settings, page: Page, inked: int) -> Needs:
     """What a page takes: CPU time, memory, and disk for plates before and after and TIFF files."""
     width, height = info.samples(settings.box, settings.dpi)
     samples = width * height * max(1, inked)
-    memory = samples * TABLE_BYTES if fits_page(width, height, max(1, inked)) else sheet_memory(width, inked)
+    memory = trapping_memory(settings, width, height, max(1, inked))
     seconds, disk = samples * SECONDS_A_SAMPLE + SECONDS_A_PAGE, width * height * (len(page.inks) + inked)
     return Needs(page.number, width, height, len(page.inks), inked, samples, round(seconds, 1), memory, disk)
 

@@ -11,7 +11,7 @@ from collections.abc import Iterator, Sequence
 from dataclasses import dataclass
 from multiprocessing.connection import Connection
 
-from . import identity, job_record, pdf_beside, preflight, proof, tools
+from . import engine, identity, job_record, pdf_beside, preflight, proof, tools
 from .errors import PressError, Status
 from .events import (Event, FindingMade, Observer, PageDone, PageFailed, RunDone, RunStarted, StepStarted, Warned,
                      silent)
@@ -186,7 +186,7 @@ def run(path: str, out: str, settings: Settings = Settings(), pages: Sequence[in
     the result."""
     given, job = identity.Input.take(path), JobFolder(out)
     identity.judge(job, job_record.read_record(out), given.file, settings.force, bool(pages))
-    tools.program("trap")
+    engine.trapping_program(settings)
     with scratch_folder() as scratch:
         source = open_source(path, scratch, settings.time)
         numbers = list(pages) or list(range(1, source.count + 1))
