@@ -17,7 +17,7 @@ from .icc import read_profile
 from .images import moved_to_page
 from .inks import Ink
 from .names import readable
-from .plates import Array, Plates
+from .plates import Array, Plates, release
 from .rects import Rect
 from .settings import Settings
 from .source import MOST_DEPTH, UNREAD, PageInfo, inherited
@@ -35,7 +35,7 @@ SMALL_TYPE, HAIRLINE, GROUND_SHARE = 7.0, 0.25, 0.3
 STEM, LEAST_PIXELS = 0.08, 3.0
 # An image of less dpi is coarse.
 COARSE = 150.0
-BAND_ROWS = 256
+BAND_ROWS, COVERAGE_ROWS = 256, 64
 # Where a text has its place.
 AT = "<at>"
 
@@ -67,28 +67,38 @@ def coverage_of(plates: Plates, inks: Sequence[Ink], within: Rect | None = None)
     """How much ink a page takes, row block by row block. Varnish, die lines and the like are left out of the total, and
     so is what lies outside a box in points: marks are on every plate."""
     columns, lines = inside(plates, within)
-    sums = numpy.zeros(len(plates.arrays))
-    best, row, column = -1.0, 0, 0
-    wide = numpy.uint16 if plates.maxval < 256 else numpy.uint32
-    for first, end, _, _ in plates.bands(BAND_ROWS):
-        total: Array | None = None
-        for number, (array, ink) in enumerate(zip(plates.arrays, inks)):
-            if not ink.has_ink:
-                continue
-            tints = plates.maxval - array[first:end].astype(wide)
-            sums[number] += float(tints.sum(dtype=numpy.uint64))
-            if counts(ink.kind):
-                total = tints if total is None else total + tints
-        top, bottom = max(lines.start - first, 0), max(lines.stop - first, 0)
-        part = total[top:bottom, columns] if total is not None else None
-        if part is not None and part.size and part.max() > best:
-            place = numpy.unravel_index(int(part.argmax()), part.shape)
-            best = float(part.max())
-            row, column = first + top + int(place[0]), columns.start + int(place[1])
+    inked = [(number, array, counts(ink.kind)) for number, (array, ink) in enumerate(zip(plates.arrays, inks)) if ink.has_ink]
+    sums, best, row, column = [0] * len(plates.arrays), -1, 0, 0
+    for first, end, _, _ in plates.bands(COVERAGE_ROWS):
+        band = slice(max(lines.start, first), min(lines.stop, end))
+        most = numpy.zeros(plates.width, dtype="i4")
+        for number, array, counted in inked:
+            least = array[first:end].min(axis=0)
+            if int(least.min()) < plates.maxval:
+                sums[number] += array[first:end].size * plates.maxval - int(array[first:end].sum(dtype=numpy.uint64))
+            most += (plates.maxval - least.astype("i4")) * counted
+        # No sum of tints in a column is more than that of its greatest tints.
+        some = numpy.flatnonzero(most[columns] > best)
+        if band.start < band.stop and len(some):
+            left = columns.start + int(some[0])
+            tints = total_of([array[band, left:columns.start + int(some[-1]) + 1] for _, array, counted in inked if counted],
+                             (band.stop - band.start, int(some[-1] - some[0]) + 1), plates.maxval)
+            place = divmod(int(tints.argmax()), tints.shape[1])
+            if int(tints[place]) > best:
+                best, row, column = int(tints[place]), band.start + place[0], left + place[1]
+    release(*plates.arrays)
     scale = 72 / plates.resolution
     samples = plates.width * plates.height * plates.maxval
-    return Coverage(tuple(float(one) / samples for one in sums), max(best, 0) / plates.maxval,
+    return Coverage(tuple(one / samples for one in sums), max(best, 0) / plates.maxval,
                     ((column + 0.5) * scale, (plates.height - row - 0.5) * scale))
+
+
+def total_of(arrays: Sequence[Array], shape: tuple[int, int], maxval: int) -> Array:
+    """The sum of the tints of plates at each sample."""
+    total = numpy.zeros(shape, dtype=numpy.uint16 if maxval < 256 else numpy.uint32)
+    for array in arrays:
+        total += total.dtype.type(maxval) - array
+    return total
 
 
 def inside(plates: Plates, within: Rect | None) -> tuple[slice, slice]:

@@ -19,7 +19,7 @@ from .folder import JOB, PageFolder, read_layout
 from .icc import need_press_profile
 from .inks import Look
 from .names import PROCESS, readable
-from .plates import Array
+from .plates import Array, release
 from .tables import is_seen
 
 Part = tuple[int, int, int, int]
@@ -50,10 +50,15 @@ def mean_of(plane: Array, times: int) -> Array:
     cut = plane[:height * times, :width * times]
     if cut.shape != (height * times, width * times):
         return plane[:height, :width]
-    # The columns first, since a band's sums are small then.
-    columns = cut.reshape(cut.shape[0], width, times).sum(axis=2, dtype="u4")
-    sums: Array = columns.reshape(height, times, width).sum(axis=1) + times * times // 2
-    return (sums // (times * times)).astype("u1")
+    wide = "u2" if 255 * times * times < 1 << 16 else "u4"
+    rows = cut[::times].astype(wide)
+    for k in range(1, times):
+        rows += cut[k::times]
+    sums = rows[:, ::times] + rows.dtype.type(times * times // 2)
+    for k in range(1, times):
+        sums += rows[:, k::times]
+    means: Array = (sums // rows.dtype.type(times * times)).astype("u1")
+    return means
 
 
 def eight_bits(array: Array, maxval: int) -> Array:
@@ -118,6 +123,7 @@ class Painter:
         for start in range(0, end, step):
             rows = [mean_of(plane[start:min(start + step, end, height)], times) for plane in planes]
             parts.append(self.by_profile(rows, profile) if profile else self.laid_over(rows))
+            release(*planes)
         return numpy.concatenate(parts)
 
     def by_profile(self, planes: Sequence[Array], profile: str) -> Array:

@@ -83,7 +83,10 @@ class Plates:
 def release(*arrays: Array) -> None:
     """Lets go of the memory of mapped plates that were read. They are read again when they are looked at."""
     for array in arrays:
-        mapped = getattr(array, "_mmap", None)
+        whole: Any = array
+        while whole is not None and not isinstance(whole, mmap.mmap) and not hasattr(whole, "_mmap"):
+            whole = getattr(whole, "base", None)
+        mapped = getattr(whole, "_mmap", whole)
         if isinstance(mapped, mmap.mmap) and hasattr(mmap, "MADV_DONTNEED"):
             mapped.madvise(mmap.MADV_DONTNEED)
 

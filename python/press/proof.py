@@ -8,6 +8,7 @@ from collections.abc import Iterable, Iterator, Mapping, Sequence
 import numpy
 
 from . import gaps
+from .changes import Grid, changes_of, made_small
 from .engine import Report, read_report
 from .errors import PressError, Status
 from .files import whole_file, write_text
@@ -24,6 +25,7 @@ from .tools import PRESS
 
 MOST_PAGES, OVERVIEW, PLATE_WIDTH = 12, 1000, 240
 DETAIL_WIDTH, DETAIL_HEIGHT, BY_TRAPS, BY_BARED = 160, 120, 4, 2
+GRID = Grid(DETAIL_WIDTH, DETAIL_HEIGHT)
 RED, BLUE = (215, 0, 30), (120, 150, 210)
 LEAST_SHIFT = 4
 
@@ -115,23 +117,21 @@ class Sheet:
         self.radius = max(1, int(self.width) // 2)
         self.times = max(1, -(-page.head.width // OVERVIEW), -(-page.head.height // (OVERVIEW * 2)))
         densities = [float(ink.density) if is_seen(ink.kind) else 0.0 for ink in page.inks]
-        self.bared_before, self.bared_after = (gaps.bared(planes, densities, self.radius)
-                                               for planes in (self.painter.before, self.painter.after))
+        self.bared_before, self.bared_after = gaps.bared_twice(self.painter.before, self.painter.after, densities,
+                                                               self.radius)
+        self.changes = changes_of(self.painter.before, self.painter.after, self.times, GRID)
 
     def small_marks(self, where: Array) -> Array:
         """Marks on the small picture: a point has one if some sample of it has, grown by a point."""
-        times = self.times
-        height, width = max(1, where.shape[0] // times), max(1, where.shape[1] // times)
-        cut = where[:height * times, :width * times]
-        return thickened(cut if times == 1 else cut.reshape(height, times, width, times).any(axis=(1, 3)), 1)
+        return thickened(made_small(where, self.times), 1)
 
     def overviews(self) -> tuple[Array, Array, Array, Array]:
         """Before, after, the traps, and the map."""
         painter = self.painter
         before, after = painter.small(painter.before, self.times), painter.small(painter.after, self.times)
         traps, bare = pale(before), pale(before)
-        for light, old, new in zip(painter.lights, painter.before, painter.after):
-            traps[self.small_marks(new < old)[:traps.shape[0], :traps.shape[1]]] = light
+        for light, marks in zip(painter.lights, self.changes.marks):
+            traps[thickened(marks, 1)[:traps.shape[0], :traps.shape[1]]] = light
         bare[self.small_marks(self.bared_before & ~self.bared_after)] = BLUE
         bare[self.small_marks(self.bared_after)] = RED
         return before, after, traps, bare
@@ -139,8 +139,7 @@ class Sheet:
     def details(self) -> list[Part]:
         """The parts with most traps, and those with most gaps left, as rectangles that do not overlap."""
         found: list[Part] = []
-        for where, most in ((self.painter.changed, BY_TRAPS), (self.bared_after, BY_BARED)):
-            counts = counted_in_grid(where)
+        for counts, most in ((self.changes.counts, BY_TRAPS), (GRID.counted(self.bared_after), BY_BARED)):
             for at in numpy.argsort(counts, axis=None)[::-1][:most].tolist():
                 row, column = divmod(at, counts.shape[1])
                 part = self.part_at(row, column)
@@ -167,11 +166,6 @@ class Sheet:
         return out
 
 
-def counted_in_grid(where: Array) -> Array:
-    """How many marks each part of a grid has."""
-    rows = numpy.add.reduceat(where, range(0, where.shape[0], DETAIL_HEIGHT), axis=0, dtype="i4")
-    counts: Array = numpy.add.reduceat(rows, range(0, where.shape[1], DETAIL_WIDTH), axis=1)
-    return counts
 
 
 # The parts of a page's part
@@ -302,7 +296,7 @@ def coverage_text(page: PageFolder) -> str:
 def ink_rows(sheet: Sheet, report: Report) -> Iterator[Sequence[str | int]]:
     """The rows of the table of inks."""
     painter, square = sheet.painter, (25.4 / sheet.page.source.resolution) ** 2
-    for ink, light, old, new in zip(sheet.page.inks, painter.lights, painter.before, painter.after):
-        added = f"{int((new < old).sum()) * square:.2f}\u00a0mm²"
+    for ink, light, count in zip(sheet.page.inks, painter.lights, sheet.changes.added):
+        added = f"{count * square:.2f}\u00a0mm²"
         yield (swatch(light) + long(readable(ink.colorant)), long(ink.name), ink.density, ink.kind,
                "ink" if ink.has_ink else "blank", report.plates.get(ink.name, 0), added)

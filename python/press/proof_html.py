@@ -11,7 +11,7 @@ from PIL import Image
 from .picture import Light
 from .plates import Array
 
-JPEG_QUALITY = 88
+JPEG_QUALITY, PNG_LEVEL = 88, 6
 escaped = html.escape
 
 

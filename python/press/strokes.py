@@ -39,6 +39,8 @@ LEAST_AREA = 3
 LONG = 6
 TILE_WIDTHS = 8
 STRIP_ROWS = 256
+# So many pixels of some planes fit a processor's cache.
+BLOCK_PIXELS = 65_536
 TILE = 64
 
 
@@ -124,13 +126,29 @@ def edges_of(planes: Sequence[Plane], steps: Sequence[int]) -> Edges:
     trap."""
     height, width = planes[0].shape
     out = [np.zeros((height, width), bool) for _ in range(4)]
+    rows = max(16, BLOCK_PIXELS // max(1, width))
+    for top in range(0, height, rows):
+        add_edges([one[top:top + rows] for one in out], [plane[top:top + rows + 1] for plane in planes], steps)
+    rising, falling, rising_down, falling_down = out
+    calls, calls_down = rising & falling, rising_down & falling_down
+    np.logical_or(rising, falling, out=rising)
+    np.logical_or(rising_down, falling_down, out=rising_down)
+    return Edges(rising, rising_down, calls, calls_down)
+
+
+def add_edges(out: Sequence[Mask], planes: Sequence[Plane], steps: Sequence[int]) -> None:
+    """Marks where a plane rises and falls by its step to the right and down. The planes have one more row than the
+    marks, unless they end with the page."""
+    height = out[0].shape[0]
     for plane, step in zip(planes, steps):
+        if plane.size == 0 or int(plane.max()) - int(plane.min()) < step:
+            continue
         reduced = np.maximum(plane, np.uint8(step - 1)) - np.uint8(step - 1)
-        out[0][:, :-1] |= reduced[:, 1:] > plane[:, :-1]
-        out[1][:, :-1] |= reduced[:, :-1] > plane[:, 1:]
-        out[2][:-1] |= reduced[1:] > plane[:-1]
-        out[3][:-1] |= reduced[:-1] > plane[1:]
-    return Edges(out[0] | out[1], out[2] | out[3], out[0] & out[1], out[2] & out[3])
+        own, below = plane[:height], plane[1:]
+        out[0][:, :-1] |= reduced[:height, 1:] > own[:, :-1]
+        out[1][:, :-1] |= reduced[:height, :-1] > own[:, 1:]
+        out[2][:len(below)] |= reduced[1:] > plane[:-1]
+        out[3][:len(below)] |= reduced[:-1] > below
 
 
 def spread(mask: Mask, reach: int) -> Mask:
@@ -160,11 +178,17 @@ def _spread_along(mask: Mask, reach: int, axis: int) -> Mask:
 def grown_within(mask: Mask, edges: Edges) -> Mask:
     """Each pixel that is set or has a neighbour that is, with no edge between."""
     out = mask.copy()
-    across, down = ~edges.right[:, :-1], ~edges.lower[:-1]
-    out[:, 1:] |= mask[:, :-1] & across
-    out[:, :-1] |= mask[:, 1:] & across
-    out[1:] |= mask[:-1] & down
-    out[:-1] |= mask[1:] & down
+    rows = max(16, BLOCK_PIXELS // max(1, mask.shape[1]))
+    for top in range(0, mask.shape[0], rows):
+        own = slice(top, top + rows)
+        across, some = edges.right[own, :-1], mask[own]
+        # A pixel that is set, and an edge that is not.
+        out[own, 1:] |= some[:, :-1] > across
+        out[own, :-1] |= some[:, 1:] > across
+        upper, lower = mask[top:top + rows + 1][:-1], mask[top + 1:top + rows + 1]
+        down = edges.lower[top:top + len(lower)]
+        out[top + 1:top + rows + 1] |= upper > down
+        out[top:top + len(lower)] |= lower > down
     return out
 
 

@@ -11,6 +11,8 @@ Vocabulary
 """
 from __future__ import annotations
 
+import bisect
+import functools
 import math
 from collections.abc import Iterable, Sequence
 from dataclasses import dataclass, replace
@@ -111,11 +113,15 @@ def with_pieces(lines: list[list[tuple[Part, Box]]]) -> list[list[tuple[Part, Bo
     return [items for items in lines if items]
 
 
-def between(one: Box, other: Box) -> tuple[list[int], int, int]:
+def between(one: Box, other: Box) -> tuple[tuple[int, int], int, int]:
     """The heights of two boxes, the lesser first, and how far apart they are across and down; below 0 they overlap."""
-    heights = sorted((one.lower - one.upper, other.lower - other.upper))
-    across = max(one.left, other.left) - min(one.right, other.right)
-    return heights, across, max(one.upper, other.upper) - min(one.lower, other.lower)
+    # Called for each pair of letters that are near: comparisons take half the time of calls of min and max.
+    high, other_high = one.lower - one.upper, other.lower - other.upper
+    left, right = one.left if one.left > other.left else other.left, one.right if one.right < other.right else other.right
+    upper = one.upper if one.upper > other.upper else other.upper
+    lower = one.lower if one.lower < other.lower else other.lower
+    heights = (high, other_high) if high < other_high else (other_high, high)
+    return heights, left - right, upper - lower
 
 
 def is_piece(one: Box, other: Box) -> bool:
@@ -147,7 +153,7 @@ def reach_for(stroke: float, slides: bool = False, attached: bool = False, slack
     if third < (LEAST_CENTRED if slides else REACHES[0]):
         return 0.0
     most = max(math.floor(third), 1) + 0.5 - ROUNDING
-    return max(reach for reach in REACHES if reach <= min(third + slack, most))
+    return REACHES[bisect.bisect_right(REACHES, min(third + slack, most)) - 1]
 
 
 def narrow_lines(parts: Sequence[Part], rule: Rule, resolution: int) -> list[Line]:
@@ -234,14 +240,20 @@ def own_share(planes: Sequence[Plane], inks: Sequence[Ink], rule: Rule, lines: S
 def within_reach(right: Mask, lower: Mask, reach: float) -> Mask:
     """The pixels whose middle lies within a reach of the middle of an edge."""
     out = np.zeros_like(right)
-    far = math.ceil(reach)
-    for down in range(-far, far + 1):
-        for across in range(-far, far + 1):
-            if math.hypot(down, across - 0.5) <= reach:
-                _or_moved(out, right, down, across)
-            if math.hypot(down - 0.5, across) <= reach:
-                _or_moved(out, lower, down, across)
+    for mask, moves in zip((right, lower), moves_within(reach)):
+        for down, across in moves if mask.any() else ():
+            _or_moved(out, mask, down, across)
     return out
+
+
+@functools.lru_cache(maxsize=64)
+def moves_within(reach: float) -> tuple[tuple[tuple[int, int], ...], tuple[tuple[int, int], ...]]:
+    """The rows and columns from an edge to the pixels within a reach of it: of an edge to the right neighbour, and of
+    one to the lower neighbour."""
+    far = math.ceil(reach)
+    moves = [(down, across) for down in range(-far, far + 1) for across in range(-far, far + 1)]
+    return (tuple((down, across) for down, across in moves if math.hypot(down, across - 0.5) <= reach),
+            tuple((down, across) for down, across in moves if math.hypot(down - 0.5, across) <= reach))
 
 
 def _or_moved(out: Mask, mask: Mask, down: int, across: int) -> None:
