@@ -209,7 +209,7 @@ def test_task_of_an_array_job(room: Room, local: bool) -> None:
     assert {path.name for path in (room / "out").iterdir()} - {"job.json"} == {"page-002"}
     if local:
         assert sorted(path.name for path in (room / "out/page-002/tiff").iterdir()) == [
-            "three-2(Black).tif", "three-2(Cyan).tif", "three-2(Magenta).tif", "three-2(Yellow).tif", "three-2.png", "three-2.tif"]
+            "three-2(Black).tif", "three-2(Cyan).tif", "three-2(Magenta).tif", "three-2(Yellow).tif"]
     assert not list(disk.iterdir())
 
 

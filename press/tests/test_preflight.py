@@ -32,10 +32,10 @@ def test_pages_that_are_too_large_are_not_rendered(room: Room, built: None) -> N
     room.sample("huge.pdf")
     path = room.slow_ghostscript()
     (room.beside / "slow-now").touch()
-    room.refused(7, r"press-plates: huge\.pdf: page 1: 120000 by 120000 samples, and a side has at most 16384 \(at most 63 .*",
-                 "plates", "--time", "60", "huge.pdf", "new", env=path)
-    room.refused_after(1, r"page 1: failed: press-preflight: huge\.pdf: page 1: 120000 by .* \(at most 63 .*",
-                       "all", "--time", "60", "--quiet", "huge.pdf", "huge", env=path)
+    room.refused(7, r"press-plates: huge\.pdf: page 1: 280000 by 280000 samples, and a side has at most 262144 \(at most 1310 .*",
+                 "plates", "--time", "60", "--dpi", "1400", "huge.pdf", "new", env=path)
+    room.refused_after(1, r"page 1: failed: press-preflight: huge\.pdf: page 1: 280000 by .* \(at most 1310 .*",
+                       "all", "--time", "60", "--dpi", "1400", "--quiet", "huge.pdf", "huge", env=path)
 
 
 def test_time_limit(room: Room) -> None:
@@ -47,11 +47,11 @@ def test_time_limit(room: Room) -> None:
                  "plates", "--time", "5", "twenty.pdf", "new", env=path)
 
 
-@pytest.mark.parametrize("dpi, faults", [("3000", 0), ("9000", 1), ("10000", 1)])
+@pytest.mark.parametrize("dpi, faults", [("1000", 0), ("1400", 1)])
 def test_size_is_found_once(room: Room, dpi: str, faults: int) -> None:
-    """A page that is too large, by its sides or with the inks that are found, has one finding of its size."""
-    room.sample("pair.pdf")
-    done = room.run("preflight", "--dpi", dpi, "pair.pdf")
+    """A page that is too large has one finding of its size."""
+    room.sample("huge.pdf")
+    done = room.run("preflight", "--dpi", dpi, "huge.pdf")
     assert done.out.count(": fault: size: ") == faults and done.status == 7 * faults, done
 
 

@@ -24,7 +24,7 @@ def tiffsep(room: Room, pdf: Path, folder: Path, name: str, page: int = 1) -> No
 def check_separations(room: Room, page: Path, made: Path, name: str) -> int:
     """Compares the separations of a page's untrapped plates with tiffsep's own; answers how many there are."""
     out = room / f"{page.name}-tiffs"
-    room.goes("tiff", "--untrapped", "--name", name, page, out)
+    room.goes("tiff", "--untrapped", "--composite", "--name", name, page, out)
     assert sorted(file for file in os.listdir(os.fsencode(out)) if not file.endswith(b".png")) == sorted(os.listdir(os.fsencode(made)))
     separations = [file for file in os.listdir(os.fsencode(made)) if b"(" in file]
     for file in separations:

@@ -9,8 +9,11 @@ import tifffile
 from readers import plate, tiff_plane, tiff_tags
 from room import Room, needs
 
-from press import tiff
+from press import separation_tiff, tiff
 from press.errors import PressError, Status
+from press.inks import Ink
+from press.plates import Plates
+from press.settings import COMPRESSIONS
 
 COLORANTS = ("Cyan", "Magenta", "Yellow", "Black", "Gold Foil", "Warm Red")
 CMYK_PROFILE, RGB_PROFILE = (f"/usr/share/color/icc/ghostscript/{name}.icc" for name in ("default_cmyk", "srgb"))
@@ -26,7 +29,7 @@ def printed(*words: str | Path) -> str:
 def fixture_composite(room: Room, two: Path) -> Path:
     """The TIFF file of all inks of an untrapped page."""
     assert two.is_dir()
-    room.goes("tiff", "--untrapped", "--name", "all", "two", "tiffs")
+    room.goes("tiff", "--untrapped", "--composite", "--name", "all", "two", "tiffs")
     return room / "tiffs" / "all.tif"
 
 
@@ -149,7 +152,51 @@ def test_files_that_are_no_separations(separations: Room) -> None:
                         "Cyan=seps/turned(Cyan).tif", "new")
 
 
+def test_ways_to_pack(room: Room, two: Path) -> None:
+    """Separations are packed as --compression says, with the same samples; other ways are refused. The file of all inks is made on
+    request alone."""
+    assert two.is_dir()
+    numbers = {"none": 1, "lzw": 5, "packbits": 32773, "deflate": 8}
+    for how, number in numbers.items():
+        room.goes("tiff", "--untrapped", "--compression", how, "--name", how, "two", "packed")
+        tags, = tiff_tags(room / f"packed/{how}(Cyan).tif", {259: "compression"})
+        assert tags["compression"] == [number], how
+        assert (tiff_plane(room / f"packed/{how}(Cyan).tif") == plate(two / "Cyan.pgm")).all(), how
+    assert all("(" in path.name for path in (room / "packed").iterdir())
+    room.refused(2, "press-tiff: --compression is one of none, packbits, lzw, deflate, and not 'zip' .*", "tiff", "two", "new", "--compression",
+                 "zip")
+
+
 # Functions
+
+@pytest.mark.quick
+@pytest.mark.parametrize("dtype", ["u1", ">u2"])
+@pytest.mark.parametrize("compression", COMPRESSIONS)
+def test_files_above_four_gigabytes(tmp_path: Path, monkeypatch: pytest.MonkeyPatch, dtype: str, compression: str) -> None:
+    """What does not fit a TIFF file is a BigTIFF of the same samples, in strips."""
+    monkeypatch.setattr(separation_tiff, "MOST_BYTES", 1000)
+    monkeypatch.setattr(separation_tiff, "STRIP_BYTES", 4096)
+    array = numpy.random.default_rng(1).integers(0, 255, (300, 70)).repeat(2, axis=1).astype(dtype)
+    path = tmp_path / "a(Cyan).tif"
+    separation_tiff.write_separation(bytes(path), array, 300, compression)
+    assert path.read_bytes()[:4] == b"II\x2b\0"
+    with tifffile.TiffFile(path) as file:
+        page = file.pages[0]
+        assert page.rowsperstrip < 300 and page.tags["XResolution"].value == (300, 1) and page.photometric == 1
+    assert (tiff.read_separation(tiff.open_separation(str(path)), False) == array).all()
+
+
+@pytest.mark.quick
+def test_all_inks_above_four_gigabytes(tmp_path: Path, monkeypatch: pytest.MonkeyPatch) -> None:
+    """So is the file of all inks."""
+    monkeypatch.setattr(separation_tiff, "MOST_BYTES", 1000)
+    arrays = tuple(numpy.full((30, 40), tint, dtype="u1") for tint in (0, 100, 200, 255))
+    plates = Plates(("Cyan", "Magenta", "Yellow", "Black"), arrays, 255, 300)
+    inks = [Ink(name, name.encode(), name.encode(), "1") for name in plates.names]
+    tiff.write_composite(bytes(tmp_path / "a.tif"), inks, plates, False)
+    assert (tmp_path / "a.tif").read_bytes()[:4] == b"II\x2b\0"
+    assert (tifffile.imread(tmp_path / "a.tif")[0, 0] == [255, 155, 55, 0]).all()
+
 
 @pytest.mark.quick
 @pytest.mark.parametrize("dtype, most", [("u1", 255), (">u2", 65_535)])

@@ -41,7 +41,7 @@ def test_label_goes_the_whole_way(room: Room, built: None, programs: Path) -> No
     """The separations are the trapped plates, and the inks of the file of all are, too; pictures are drawn of them."""
     check = ("--check", "2") if (programs / "presscheck").exists() else ()
     before = resource.getrusage(resource.RUSAGE_CHILDREN)
-    room.goes("all", "--quiet", *check, LABEL, "label")
+    room.goes("all", "--quiet", "--composite", *check, LABEL, "label")
     after = resource.getrusage(resource.RUSAGE_CHILDREN)
     assert after.ru_utime + after.ru_stime - before.ru_utime - before.ru_stime < MOST_SECONDS
     for page in (1, 2):

@@ -124,7 +124,8 @@ class PageWork:
             self.warn("press-trap", trapped.warnings)
         if self.settings.tiff:
             with self.step("TIFF files", "press-tiff"):
-                options = tiff.TiffOptions(channels=self.settings.channels, icc=self.settings.icc)
+                options = tiff.TiffOptions(channels=self.settings.channels, icc=self.settings.icc,
+                                           composite=self.settings.composite, compression=self.settings.compression)
                 tiff.write_tiffs(made, made.file(TIFF), options)
         if self.settings.look:
             with self.step("pictures", "press-look"):

@@ -22,7 +22,7 @@ def data_uri(picture: Array, kind: str = "PNG") -> str:
     if kind == "JPEG":
         drawn.save(out, format=kind, quality=JPEG_QUALITY)
     else:
-        drawn.save(out, format=kind, optimize=True)
+        drawn.save(out, format=kind, compress_level=PNG_LEVEL)
     return f"data:image/{kind.lower()};base64,{base64.b64encode(out.getvalue()).decode()}"
 
 

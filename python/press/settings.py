@@ -14,6 +14,7 @@ from .files import table_lines
 from .icc import need_press_profile
 from .tools import PRESS
 
+COMPRESSIONS = ("none", "packbits", "lzw", "deflate")
 BOXES = ("media", "crop", "bleed", "trim", "art")
 POINTS = {"mm": 72 / 25.4, "um": 72 / 25_400, "µm": 72 / 25_400, "pt": 1.0, "in": 72.0}
 MOST_WIDTH, USUAL_WIDTH = 100, 0.25
@@ -213,6 +214,8 @@ class Settings:
     band: int | None = None
     check: int | None = None
     # Outputs.
+    compression: str = "lzw"
+    composite: bool = False
     channels: bool = False
     tiff: bool = True
     tiff_only: bool = False
@@ -374,6 +377,13 @@ def box_of(text: str) -> str:
     return text
 
 
+def compression_of(text: str) -> str:
+    """How TIFF files are packed."""
+    if text not in COMPRESSIONS:
+        raise UsageError(f"--compression is one of {', '.join(COMPRESSIONS)}, and not '{text}'")
+    return text
+
+
 def add_time_option(parser: argparse.ArgumentParser) -> None:
     """The limit of Ghostscript's time."""
     parser.add_argument("-t", "--time", metavar="S", type=whole("--time", 1, MOST_SECONDS),
@@ -397,8 +407,12 @@ def add_engine_options(parser: argparse.ArgumentParser) -> None:
 
 def add_tiff_options(parser: argparse.ArgumentParser) -> None:
     """The options of TIFF files."""
+    parser.add_argument("--compression", metavar="HOW", type=compression_of,
+                        help='how the separations are packed: "none", "packbits", "lzw" (the default) or "deflate"')
+    parser.add_argument("--composite", action="store_true", default=None,
+                        help="writes a file of all inks, NAME.tif, and a picture in RGB, NAME.png, too")
     parser.add_argument("--channels", action="store_true", default=None,
-                        help="makes the spots extra channels of the CMYK page, with their names and of no kind of "
+                        help="writes these too, and makes the spots extra channels of the CMYK page, with their names and of no kind of "
                              "transparency, as image editors and RIPs have them. ImageMagick takes the first of them "
                              "for transparency all the same, and Netpbm reads no such file")
 

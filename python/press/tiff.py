@@ -1,6 +1,7 @@
 # SPDX-License-Identifier: Apache-2.0
-"""TIFF files of a page: a file for each separation, as Ghostscript's tiffsep names them, one of all inks, and a
-picture; and plates from separations of another RIP. tifffile writes what has pages, and libtiff, by Pillow, LZW."""
+"""TIFF files of a page: a file for each separation, as Ghostscript's tiffsep names them, and on request one of all inks
+and a picture; and plates from separations of another RIP. tifffile writes what has pages."""
+import contextlib
 import os
 import urllib.parse
 import zlib
@@ -21,22 +22,22 @@ from .multi_tiff import multi_tags
 from .names import PROCESS, readable
 from .output_report import coverage, file_figures, write_report
 from .plates import Array, Plates
+from .separation_tiff import STRIP_BYTES, needs_big, write_separation
 
-STRIP_BYTES, MOST_BYTES, LEVEL = 1 << 20, (1 << 32) - (1 << 24), 6
+LEVEL = 6
 MAXVALS = (255, 65_535)
 CENTIMETRE = 3
 WHITE_IS_ZERO, BLACK_IS_ZERO = 0, 1
 Tag = tuple[int, Any, int | None, Any, bool]
-ORIENTATION, CHANNELS, PAGE_NAME, PAGE_NUMBER, INK_SET, INK_NAMES, NUMBER_OF_INKS = 274, 277, 285, 297, 332, 333, 334
+ORIENTATION, PAGE_NAME, PAGE_NUMBER, INK_SET, INK_NAMES, NUMBER_OF_INKS = 274, 285, 297, 332, 333, 334
 CMYK_INKS, UPRIGHT = 1, 1
-# Plates are large, and come from the shop's own RIPs.
-Image.MAX_IMAGE_PIXELS = None
 
 
 @dataclass(frozen=True)
 class TiffOptions:
     """What the TIFF files are made of: the name that they have, or None for the PDF's and the page's; the trapped
-    plates or those from the PDF; spots as channels of the CMYK page; and the press's profile for the picture."""
+    plates or those from the PDF; whether there are a file of all inks and a picture too, and in that file spots as
+    channels of the CMYK page; the press's profile for the picture; and how separations are packed."""
 
     name: str | None = None
     trapped: bool = True
@@ -44,10 +45,12 @@ class TiffOptions:
     icc: str | None = None
     multi: bool = False
     report: bool = False
+    composite: bool = False
+    compression: str = "lzw"
 
 
 def write_tiffs(page: PageFolder, out: str, options: TiffOptions) -> None:
-    """Writes the TIFF files and the picture of a page into the folder `out`, which is made if it is not there.
+    """Writes the TIFF files of a page into the folder `out`, which is made if it is not there.
     Files of these names are replaced when all are written."""
     if options.trapped:
         page.need_trapped()
@@ -65,25 +68,16 @@ def write_tiffs(page: PageFolder, out: str, options: TiffOptions) -> None:
     with folder_beside(out, inside=True) as made:
         inside = os.path.join(os.fsencode(made), name)
         for ink, array in zip(page.inks, plates.arrays):
-            write_separation(inside + b"(" + ink.suffix + b").tif", array, page.source.resolution)
-        write_composite(inside + b".tif", page.inks, plates, options.channels)
-        picture.write_overview(inside + b".png", page, options.trapped, options.icc)
+            write_separation(inside + b"(" + ink.suffix + b").tif", array, page.source.resolution, options.compression)
+        if options.composite or options.channels:
+            write_composite(inside + b".tif", page.inks, plates, options.channels)
+            picture.write_overview(inside + b".png", page, options.trapped, options.icc)
         if options.multi:
             write_multi(inside + b"-multi.tif", page, plates)
         if options.report:
             write_report_of(made, os.fsdecode(name), page, plates)
         for file in os.listdir(os.fsencode(made)):
             os.replace(os.path.join(os.fsencode(made), file), os.path.join(os.fsencode(out), file))
-
-
-def write_separation(path: bytes, array: Array, resolution: int) -> None:
-    """Writes a plate (rows × columns, 0 is full ink) as a gray TIFF file, packed by LZW; the resolution is in dpi."""
-    height, width = array.shape
-    mode = "L" if array.dtype.itemsize == 1 else "I;16B"
-    image = Image.frombuffer(mode, (width, height), array, "raw", mode, 0, 1)
-    # By its handle: the encoder takes no name that is not UTF-8.
-    with named(os.fsdecode(path)), open(os.open(path, os.O_RDWR | os.O_CREAT | os.O_TRUNC, 0o666), "w+b") as file:
-        image.save(file, format="TIFF", compression="tiff_lzw", dpi=(resolution, resolution), tiffinfo={CHANNELS: 1})
 
 
 # The file of all inks
@@ -98,10 +92,18 @@ class TiffPage:
     description: bytes | None = None
 
 
+@contextlib.contextmanager
+def new_file(path: bytes, plates: Plates) -> Iterator[tifffile.TiffWriter]:
+    """A new file for all inks; BigTIFF if they have more samples than a TIFF file can."""
+    size = sum(array.size * array.itemsize for array in plates.arrays)
+    name = os.fsdecode(path)
+    with named(name), tifffile.TiffWriter(name, bigtiff=needs_big(size), byteorder="<") as writer:
+        yield writer
+
+
 def write_composite(path: bytes, inks: Sequence[Ink], plates: Plates, channels: bool) -> None:
     """Writes all inks into one file, in which the greatest value is full ink, packed by Deflate."""
-    name = os.fsdecode(path)
-    with named(name), tifffile.TiffWriter(name, bigtiff=False, byteorder="<") as writer:
+    with new_file(path, plates) as writer:
         for page in composite_pages(inks, plates, channels):
             write_page(writer, page, plates)
 
@@ -109,8 +111,7 @@ def write_composite(path: bytes, inks: Sequence[Ink], plates: Plates, channels: 
 def write_multi(path: bytes, page: PageFolder, plates: Plates) -> None:
     """Writes all inks as channels of one page, in which the greatest value is full ink, packed by Deflate."""
     tags = multi_tags(page.inks, page.path)
-    name = os.fsdecode(path)
-    with named(name), tifffile.TiffWriter(name, bigtiff=False, byteorder="<") as writer:
+    with new_file(path, plates) as writer:
         write_page(writer, TiffPage(plates.arrays, "separated", tags), plates)
 
 
@@ -130,20 +131,17 @@ def write_page(writer: tifffile.TiffWriter, page: TiffPage, plates: Plates) -> N
     rows = max(1, STRIP_BYTES // (plates.width * count * size))
     shape = (plates.height, plates.width, count) if count > 1 else (plates.height, plates.width)
     how: dict[str, Any] = {"planarconfig": "contig", "extrasamples": [0] * (count - 4)} if count > 1 else {}
-    writer.write(strips(page.arrays, rows, plates.maxval, writer), shape=shape, dtype="<u1" if size == 1 else "<u2",
+    writer.write(strips(page.arrays, rows, plates.maxval), shape=shape, dtype="<u1" if size == 1 else "<u2",
                  photometric=page.photometric, compression="zlib", rowsperstrip=rows, metadata=None, software=False,
                  resolution=(plates.resolution, plates.resolution), resolutionunit="INCH",
                  description=page.description, extratags=[(ORIENTATION, "H", 1, UPRIGHT, True), *page.tags], **how)
 
 
-def strips(arrays: Sequence[Array], rows: int, maxval: int, writer: tifffile.TiffWriter) -> Iterator[bytes]:
+def strips(arrays: Sequence[Array], rows: int, maxval: int) -> Iterator[bytes]:
     """The strips of a page, each packed alone: the channels of a sample side by side, full ink the greatest
     value."""
     order = "u1" if maxval == MAXVALS[0] else "<u2"
     for start in range(0, arrays[0].shape[0], rows):
-        if writer.filehandle.tell() > MOST_BYTES:
-            raise PressError(Status.PLATES, "a TIFF file of all inks would have more than four thousand million bytes: "
-                             "take the separations, or fewer pixels per inch")
         block = numpy.stack([maxval - array[start:start + rows] for array in arrays], axis=2)
         yield zlib.compress(block.astype(order, copy=False).tobytes(), LEVEL)
 
