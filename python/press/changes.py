@@ -13,7 +13,8 @@ BAND_ROWS = 240
 
 @dataclass(frozen=True)
 class Grid:
-    """A grid of parts of a page, each of so many columns and rows of samples; those at its right and lower edges are cut."""
+    """A grid of parts of a page, each of so many columns and rows of samples; those at the page's right and lower edges
+    are cut."""
 
     width: int
     height: int
@@ -44,26 +45,24 @@ class Changes:
 def changes_of(before: Sequence[Array], after: Sequence[Array], times: int, grid: Grid) -> Changes:
     """What changed between plates (rows × columns, 0 is full ink), band by band. What makes no square at the right or
     lower edge has no mark."""
-    shape = before[0].shape
-    small = max(1, shape[0] // times), max(1, shape[1] // times)
-    added, marks = [0] * len(before), [numpy.zeros(small, dtype=bool) for _ in before]
-    counts = numpy.zeros((-(-shape[0] // grid.height), -(-shape[1] // grid.width)), dtype="i8")
-    for first, end in bands(shape[0], grid.height):
-        changed = numpy.zeros((end - first, shape[1]), dtype=bool)
+    height, width = before[0].shape
+    added, marks = [0] * len(before), [numpy.zeros(small_shape(before[0], times), dtype=bool) for _ in before]
+    counts = numpy.zeros((-(-height // grid.height), -(-width // grid.width)), dtype="i8")
+    for first, end in bands(height, grid.height):
+        changed = numpy.zeros((end - first, width), dtype=bool)
         for number, (old, new) in enumerate(zip(before, after)):
-            one, other = old[first:end], new[first:end]
-            differs = numpy.ascontiguousarray(one != other)
-            if not differs.any():
-                continue
-            changed |= differs
-            row, column = more_ink(one, other, differs)
+            row, column = more_ink(old[first:end], new[first:end], changed)
             added[number] += len(row)
             mark(marks[number], (row + first) // times, column // times)
-        top = first // grid.height
         some = grid.counted(changed)
-        counts[top:top + len(some)] += some
+        counts[first // grid.height:first // grid.height + len(some)] += some
         release(*before, *after)
     return Changes(tuple(added), tuple(marks), counts)
+
+
+def small_shape(array: Array, times: int) -> tuple[int, int]:
+    """The rows and columns of a picture whose points are squares of so many samples."""
+    return max(1, array.shape[0] // times), max(1, array.shape[1] // times)
 
 
 def bands(height: int, step: int) -> Iterator[tuple[int, int]]:
@@ -73,8 +72,10 @@ def bands(height: int, step: int) -> Iterator[tuple[int, int]]:
         yield first, min(height, first + rows)
 
 
-def more_ink(old: Array, new: Array, differs: Array) -> tuple[Array, Array]:
-    """The rows and columns of the samples that have more ink, of those that differ."""
+def more_ink(old: Array, new: Array, changed: Array) -> tuple[Array, Array]:
+    """The rows and columns of the samples that have more ink; those that differ are marked as changed."""
+    differs = old != new
+    changed |= differs
     row, column = numpy.divmod(numpy.flatnonzero(differs), differs.shape[1])
     more = new[row, column] < old[row, column]
     return row[more], column[more]
@@ -88,7 +89,7 @@ def mark(marks: Array, row: Array, column: Array) -> None:
 
 def made_small(where: Array, times: int) -> Array:
     """An array of bool made small: a point is set if some sample of its square is."""
-    out = numpy.zeros((max(1, where.shape[0] // times), max(1, where.shape[1] // times)), dtype=bool)
+    out = numpy.zeros(small_shape(where, times), dtype=bool)
     row, column = numpy.divmod(numpy.flatnonzero(where), where.shape[1])
     mark(out, row // times, column // times)
     return out

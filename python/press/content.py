@@ -66,39 +66,46 @@ def placed(kind: str, page: int, rect: Rect, text: str) -> Finding:
 def coverage_of(plates: Plates, inks: Sequence[Ink], within: Rect | None = None) -> Coverage:
     """How much ink a page takes, row block by row block. Varnish, die lines and the like are left out of the total, and
     so is what lies outside a box in points: marks are on every plate."""
-    columns, lines = inside(plates, within)
-    inked = [(number, array, counts(ink.kind)) for number, (array, ink) in enumerate(zip(plates.arrays, inks)) if ink.has_ink]
-    sums, best, row, column = [0] * len(plates.arrays), -1, 0, 0
-    for first, end, _, _ in plates.bands(COVERAGE_ROWS):
-        band = slice(max(lines.start, first), min(lines.stop, end))
-        most = numpy.zeros(plates.width, dtype="i4")
-        for number, array, counted in inked:
-            least = array[first:end].min(axis=0)
-            if int(least.min()) < plates.maxval:
-                sums[number] += array[first:end].size * plates.maxval - int(array[first:end].sum(dtype=numpy.uint64))
-            most += (plates.maxval - least.astype("i4")) * counted
-        # No sum of tints in a column is more than that of its greatest tints.
-        some = numpy.flatnonzero(most[columns] > best)
-        if band.start < band.stop and len(some):
-            left = columns.start + int(some[0])
-            tints = total_of([array[band, left:columns.start + int(some[-1]) + 1] for _, array, counted in inked if counted],
-                             (band.stop - band.start, int(some[-1] - some[0]) + 1), plates.maxval)
-            place = divmod(int(tints.argmax()), tints.shape[1])
-            if int(tints[place]) > best:
-                best, row, column = int(tints[place]), band.start + place[0], left + place[1]
+    inked = [array for array, ink in zip(plates.arrays, inks) if ink.has_ink and counts(ink.kind)]
+    total, place = highest_of_page(plates, inked, *inside(plates, within))
+    tints = [tints_of(array, plates.maxval) if ink.has_ink else 0 for array, ink in zip(plates.arrays, inks)]
     release(*plates.arrays)
-    scale = 72 / plates.resolution
-    samples = plates.width * plates.height * plates.maxval
-    return Coverage(tuple(one / samples for one in sums), max(best, 0) / plates.maxval,
-                    ((column + 0.5) * scale, (plates.height - row - 0.5) * scale))
+    scale, samples = 72 / plates.resolution, plates.width * plates.height * plates.maxval
+    return Coverage(tuple(one / samples for one in tints), max(total, 0) / plates.maxval,
+                    ((place[1] + 0.5) * scale, (plates.height - place[0] - 0.5) * scale))
 
 
-def total_of(arrays: Sequence[Array], shape: tuple[int, int], maxval: int) -> Array:
-    """The sum of the tints of plates at each sample."""
-    total = numpy.zeros(shape, dtype=numpy.uint16 if maxval < 256 else numpy.uint32)
+def tints_of(array: Array, maxval: int) -> int:
+    """The sum of a plate's tints."""
+    bands = (array[start:start + COVERAGE_ROWS] for start in range(0, array.shape[0], COVERAGE_ROWS))
+    return sum(band.size * maxval - int(band.sum(dtype=numpy.uint64)) for band in bands if int(band.min()) < maxval)
+
+
+def highest_of_page(plates: Plates, arrays: Sequence[Array], columns: slice,
+                    lines: slice) -> tuple[int, tuple[int, int]]:
+    """The highest sum of the tints of plates in a part of a page, and its row and column, the first from the top and
+    the left. -1 if no plate counts."""
+    best, place = -1, (0, 0)
+    for first, end, _, _ in plates.bands(COVERAGE_ROWS) if arrays else ():
+        # No sum of tints in a column is more than that of its greatest tints.
+        most = sum(plates.maxval - array[first:end].min(axis=0).astype("i4") for array in arrays)
+        some = numpy.flatnonzero(most[columns] > best) + columns.start
+        rows = slice(max(lines.start, first), min(lines.stop, end))
+        if rows.start < rows.stop and len(some):
+            found, row, column = highest(arrays, plates.maxval, rows, slice(int(some[0]), int(some[-1]) + 1))
+            if found > best:
+                best, place = found, (row, column)
+    return best, place
+
+
+def highest(arrays: Sequence[Array], maxval: int, rows: slice, columns: slice) -> tuple[int, int, int]:
+    """The highest sum of the tints of plates in a part, and its row and column."""
+    total = numpy.zeros((rows.stop - rows.start, columns.stop - columns.start),
+                        dtype=numpy.uint16 if maxval < 256 else numpy.uint32)
     for array in arrays:
-        total += total.dtype.type(maxval) - array
-    return total
+        total += total.dtype.type(maxval) - array[rows, columns]
+    row, column = divmod(int(total.argmax()), total.shape[1])
+    return int(total[row, column]), rows.start + row, columns.start + column
 
 
 def inside(plates: Plates, within: Rect | None) -> tuple[slice, slice]:

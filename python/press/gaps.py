@@ -109,7 +109,7 @@ def widened(values: Array, choose: Callable[..., Any]) -> Array:
 
 def runs_of(lively: Array) -> Iterator[tuple[int, int]]:
     """The runs of blocks that are looked at, none of them longer than what fits a processor's cache."""
-    bounds = numpy.flatnonzero(numpy.diff(numpy.concatenate(([False], lively, [False]))))
+    bounds = numpy.flatnonzero(numpy.diff(numpy.pad(lively, 1)))
     for first, last in zip(bounds[::2].tolist(), bounds[1::2].tolist()):
         for start in range(first, last, MOST_BLOCKS):
             yield start, min(last, start + MOST_BLOCKS)

@@ -166,8 +166,6 @@ class Sheet:
         return out
 
 
-
-
 # The parts of a page's part
 
 def page_text(page: PageFolder) -> str:

@@ -412,9 +412,9 @@ def add_tiff_options(parser: argparse.ArgumentParser) -> None:
     parser.add_argument("--composite", action="store_true", default=None,
                         help="writes a file of all inks, NAME.tif, and a picture in RGB, NAME.png, too")
     parser.add_argument("--channels", action="store_true", default=None,
-                        help="writes these too, and makes the spots extra channels of the CMYK page, with their names and of no kind of "
-                             "transparency, as image editors and RIPs have them. ImageMagick takes the first of them "
-                             "for transparency all the same, and Netpbm reads no such file")
+                        help="writes these too, and makes the spots extra channels of the CMYK page, with their names "
+                             "and of no kind of transparency, as image editors and RIPs have them. ImageMagick takes "
+                             "the first of them for transparency all the same, and Netpbm reads no such file")
 
 
 def add_run_options(parser: argparse.ArgumentParser) -> None:

@@ -117,7 +117,8 @@ def between(one: Box, other: Box) -> tuple[tuple[int, int], int, int]:
     """The heights of two boxes, the lesser first, and how far apart they are across and down; below 0 they overlap."""
     # Called for each pair of letters that are near: comparisons take half the time of calls of min and max.
     high, other_high = one.lower - one.upper, other.lower - other.upper
-    left, right = one.left if one.left > other.left else other.left, one.right if one.right < other.right else other.right
+    left = one.left if one.left > other.left else other.left
+    right = one.right if one.right < other.right else other.right
     upper = one.upper if one.upper > other.upper else other.upper
     lower = one.lower if one.lower < other.lower else other.lower
     heights = (high, other_high) if high < other_high else (other_high, high)
