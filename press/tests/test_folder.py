@@ -38,7 +38,7 @@ def test_folders_that_are_no_page(room: Room, two: Path, command: str) -> None:
 
 
 def test_page_of_too_many_samples(room: Room, two: Path, built: None) -> None:
-    """A page of more samples than trap takes is refused with the resolution that fits. The plates here take no room on the disk."""
+    """A page of more samples than `trap page` takes is refused with the resolution that fits. The plates here take no room on the disk."""
     width, height = LARGE_PLATE
     head = f"P5\n{width} {height}\n255\n".encode()
     for plate in two.glob("*.pgm"):
@@ -46,7 +46,7 @@ def test_page_of_too_many_samples(room: Room, two: Path, built: None) -> None:
             file.write(head)
             file.truncate(len(head) + width * height)
     room.refused(7, r"press-trap: two: 16000 by 4000 samples in 3 plates with ink are 192000000, .* 160000000, .* 547 pixels per inch fit .*",
-                 "trap", "two")
+                 "trap", "--trap-page", "two")
 
 
 def test_folders_that_miss_a_step(room: Room, two: Path) -> None:
