@@ -92,11 +92,11 @@ sanitized() {
 }
 
 if sanitized page.asan address,undefined "$top/examples/library/page.c" "$library/libtrap.a" &&
-  sanitized bands.asan address,undefined "$top/examples/library/bands.c" "$library/libtrap.a" -pthread; then
+  sanitized tiles.asan address,undefined "$top/examples/library/tiles.c" "$library/libtrap.a" -pthread; then
   page "${steady[@]}" "$out/page.asan"
   page "${steady[@]}" "$out/page.asan" -8
-  page "${steady[@]}" "$out/bands.asan"
-  echo "library: AddressSanitizer finds nothing on the poster, as a page and band by band"
+  page "${steady[@]}" "$out/tiles.asan"
+  echo "library: AddressSanitizer finds nothing on the poster, as a page and tile by tile"
 fi
 if flags=$("$top/examples/library/libgs-flags"); then
   # shellcheck disable=SC2086
@@ -127,10 +127,10 @@ if ! there valgrind; then
   exit 0
 fi
 "$CC" -std=c99 -D_POSIX_C_SOURCE=200809L -O2 -g -I"$top/library" -o "$out/page" "$top/examples/library/page.c" "$library/libtrap.a"
-"$CC" -std=c99 -D_POSIX_C_SOURCE=200809L -O2 -g -I"$top/library" -o "$out/bands" -pthread "$top/examples/library/bands.c" "$library/libtrap.a"
+"$CC" -std=c99 -D_POSIX_C_SOURCE=200809L -O2 -g -I"$top/library" -o "$out/tiles" -pthread "$top/examples/library/tiles.c" "$library/libtrap.a"
 page valgrind -q --error-exitcode=9 --leak-check=full "$out/page" -8
-page valgrind -q --error-exitcode=9 --leak-check=full "$out/bands"
-echo "library: Valgrind finds nothing on the poster, as a page and band by band"
+page valgrind -q --error-exitcode=9 --leak-check=full "$out/tiles"
+echo "library: Valgrind finds nothing on the poster, as a page and tile by tile"
 valgrind -q --tool=helgrind --error-exitcode=9 "$out/threads" 16
 echo "library: Valgrind's helgrind finds nothing between eight threads"
 valgrind -q --error-exitcode=9 --leak-check=full "$out/random" 500 "$2" 2 >"$out/told"

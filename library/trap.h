@@ -118,7 +118,7 @@ trap_status trap_halo(const char *job, size_t job_size, uint32_t *halo,
  * left corner, in x or in y.
  *
  * The halo must have untrapped samples: if windows of one raster overlap, copy what a window needs before you trap a neighbour,
- * as examples/library/bands.c does.
+ * as examples/library/tiles.c does.
  */
 trap_status trap_window8(const char *job, size_t job_size, const char *names, size_t names_size,
                          uint8_t *samples, size_t sample_count,

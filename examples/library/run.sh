@@ -68,15 +68,15 @@ for width in -8 ""; do
 done
 well "page.c gives the plates and the report of the poster, as bytes and as words"
 
-# The same page band by band, from four threads.
-compiled bands -pthread
+# The same page tile by tile, from four threads.
+compiled tiles -pthread
 words=()
 for ink in "${inks[@]}"; do words+=("$ink:$out/plates/$ink.pgm:$out/trapped/$ink.pgm"); done
-$out/bands $top/examples/poster/poster.job $out/report "${words[@]}"
+$out/tiles $top/examples/poster/poster.job $out/report "${words[@]}"
 cmp $out/report $top/examples/poster/expected/report
 for ink in "${inks[@]}"; do gzip -dc "$top/examples/poster/expected/$ink.pgm.gz" | cmp - $out/trapped/"$ink.pgm"; done
 rm $out/report $out/trapped/*
-well "bands.c gives them too, band by band from four threads"
+well "tiles.c gives them too, tile by tile from four threads"
 
 # The header is C++ too.
 if there c++; then

@@ -1,24 +1,24 @@
 /* SPDX-License-Identifier: Apache-2.0 */
-/* bands JOB REPORT NAME:IN:OUT ..: what page.c does, band by band from four threads, as a RIP that renders in bands may do it.
+/* tiles JOB REPORT NAME:IN:OUT ..: what page.c does, tile by tile from four threads, as a RIP that renders in tiles or bands may do it.
  *
- * The page is cut into bands of rows. Each band is a window of the page: its core are the band's rows, and round them stand as
- * many rows of the neighbours as trap_halo tells. A window reads its halo as it was rendered, so each thread copies its window
- * out of the rendered page, traps it, and puts the core's rows into the trapped page. The counts of the bands' reports are
- * added up. It ends with the library's status, and with 1 where a file cannot be read or written. */
+ * The page is cut into tiles. Each tile is the core of a window of the page: around it are as many rows and columns of its neighbours
+ * as trap_halo says. A window reads its halo as it was rendered, so each thread copies its window out of the rendered page, traps it,
+ * and puts the core into the trapped page. The counts of the tiles' reports are added up. It ends with the library's status, and with
+ * 1 if a file cannot be read or written. */
 #include <pthread.h>
 
 #include "plates.h"
 #include "trap.h"
 
-enum { THREADS = 4, ROWS = 37, MOST_ZONES = 251 };
+enum { THREADS = 4, TILE = 128, MOST_ZONES = 251 }; /* on a page of 600 dpi tiles of 256 to 512 are fast */
 
-/* What the reports of all bands count together. */
+/* What the reports of all tiles count together. */
 struct sums {
   unsigned long long samples[MOST_ZONES], changed[MOST_ZONES], edges, plates[LIBTRAP_MOST_PLANES];
   int zones;
 };
 
-/* What all threads share, and none writes but to rows of its own bands. */
+/* What all threads share, and none writes but to its own tiles. */
 struct work {
   struct bytes job;
   const char *names;
@@ -27,7 +27,7 @@ struct work {
   struct planes rendered, trapped;
 };
 
-/* What one thread makes of its bands. */
+/* What one thread makes of its tiles. */
 struct share {
   const struct work *work;
   int first;
@@ -37,9 +37,23 @@ struct share {
   struct sums sums;
 };
 
-static size_t row_at(const struct planes *planes, int c, unsigned y) { return ((size_t)c * planes->height + y) * planes->width; }
+/* The columns of a window, or its rows: the first on the page and their number; and the core's first in the window, and their number. */
+struct along {
+  unsigned first, count, core, core_count;
+};
 
-/* Adds a band's report, line by line. */
+static struct along along(unsigned core, unsigned halo, unsigned side) {
+  unsigned core_count = side - core > TILE ? TILE : side - core, first = core > halo ? core - halo : 0;
+  unsigned end = side - (core + core_count) > halo ? core + core_count + halo : side;
+  struct along made = {first, end - first, core - first, core_count};
+  return made;
+}
+
+static uint8_t *at(const struct planes *planes, int c, unsigned y, unsigned x) {
+  return (uint8_t *)planes->samples + ((size_t)c * planes->height + y) * planes->width + x;
+}
+
+/* Adds a tile's report, line by line. */
 static void add_report(struct sums *sums, char *text) {
   int zone, plate = 0;
   unsigned long long samples, changed;
@@ -54,36 +68,35 @@ static void add_report(struct sums *sums, char *text) {
   }
 }
 
-/* Traps the rows from one on and before another, in a window of their own. */
-static trap_status trap_band(struct share *share, unsigned from, unsigned to) {
+/* Traps the tile that begins there, in a window of its own. */
+static trap_status trap_tile(struct share *share, unsigned left, unsigned top) {
   const struct work *work = share->work;
   const struct planes *page = &work->rendered;
-  unsigned top = from > work->halo ? from - work->halo : 0;
-  unsigned end = page->height - to > work->halo ? to + work->halo : page->height;
-  struct planes window = {1, 0, page->width, end - top, page->maxval, (size_t)work->plates * page->width * (end - top)};
+  struct along x = along(left, work->halo, page->width), y = along(top, work->halo, page->height);
+  struct planes window = {1, 0, x.count, y.count, page->maxval, (size_t)work->plates * x.count * y.count};
   window.samples = room(window.count);
   for (int c = 0; c < work->plates; c++)
-    memcpy((uint8_t *)window.samples + row_at(&window, c, 0), (uint8_t *)page->samples + row_at(page, c, top),
-           (size_t)page->width * window.height);
-  struct trap_place place = {page->width, page->height, 0, top, 0, from - top, page->width, to - from};
-  trap_status status = trap_window8(work->job.at, work->job.size, work->names, strlen(work->names), window.samples,
-                                    window.count, window.width, window.height, window.width, window.maxval, &place, share->text,
+    for (unsigned row = 0; row < y.count; row++) memcpy(at(&window, c, row, 0), at(page, c, y.first + row, x.first), x.count);
+  struct trap_place place = {page->width, page->height, x.first, y.first, x.core, y.core, x.core_count, y.core_count};
+  trap_status status = trap_window8(work->job.at, work->job.size, work->names, strlen(work->names), window.samples, window.count,
+                                    window.width, window.height, window.width, window.maxval, &place, share->text,
                                     sizeof share->text - 1, &share->text_len);
   for (int c = 0; c < work->plates && status == LIBTRAP_DONE; c++)
-    memcpy((uint8_t *)work->trapped.samples + row_at(page, c, from), (uint8_t *)window.samples + row_at(&window, c, from - top),
-           (size_t)page->width * (to - from));
+    for (unsigned row = 0; row < y.core_count; row++)
+      memcpy(at(&work->trapped, c, top + row, left), at(&window, c, y.core + row, x.core), x.core_count);
   free(window.samples);
   return status;
 }
 
 static void *walk(void *of) {
   struct share *share = of;
-  unsigned height = share->work->rendered.height;
-  for (unsigned from = share->first * ROWS; from < height && share->status == LIBTRAP_DONE; from += THREADS * ROWS) {
-    share->status = trap_band(share, from, height - from > ROWS ? from + ROWS : height);
+  const struct planes *page = &share->work->rendered;
+  unsigned across = (page->width + TILE - 1) / TILE, down = (page->height + TILE - 1) / TILE;
+  for (unsigned tile = share->first; tile < across * down; tile += THREADS) {
+    share->status = trap_tile(share, tile % across * TILE, tile / across * TILE);
     if (share->status != LIBTRAP_DONE) break;
     share->text[share->text_len] = 0;
-    add_report(&share->sums, (char *)share->text);
+    add_report(&share->sums, share->text);
   }
   return 0;
 }
@@ -104,7 +117,7 @@ static void write_report(const struct work *work, const struct share *shares, ch
   if (fclose(file)) stop(name, strerror(errno));
 }
 
-/* The status of the first thread that was refused; its line is told. */
+/* The status of the first thread that was refused, whose line goes to standard error. */
 static trap_status joined(const struct share *shares) {
   for (int k = 0; k < THREADS; k++)
     if (shares[k].status != LIBTRAP_DONE) return fwrite(shares[k].text, 1, shares[k].text_len, stderr), shares[k].status;
@@ -114,7 +127,7 @@ static trap_status joined(const struct share *shares) {
 int main(int count, char **words) {
   static struct share shares[THREADS];
   struct work work = {.plates = count - 3, .rendered = {.bytes_each = 1}};
-  if (work.plates < 1 || work.plates > LIBTRAP_MOST_PLANES) return fprintf(stderr, "usage: bands JOB REPORT NAME:IN:OUT ..\n"), 2;
+  if (work.plates < 1 || work.plates > LIBTRAP_MOST_PLANES) return fprintf(stderr, "usage: tiles JOB REPORT NAME:IN:OUT ..\n"), 2;
   char *outs[LIBTRAP_MOST_PLANES], *named[LIBTRAP_MOST_PLANES], names[LIBTRAP_MOST_PLANES * 65 + 1];
   work.job = whole(words[1]);
   read_plates(&work.rendered, work.plates, words + 3, names, named, outs);
