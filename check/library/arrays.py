@@ -2,6 +2,7 @@
 # SPDX-License-Identifier: Apache-2.0
 """Tries the package trapping on NumPy arrays as a program has them: arrays of rows and columns, views whose rows lie apart, planes of one
 stack, arrays that cannot be written, and four threads. The poster of examples/ says what has to come out."""
+import ctypes
 import gzip
 import os
 import pickle
@@ -112,6 +113,13 @@ def wrong_arguments():
         raises(TypeError, lambda given=job: trapping.halo(given))
 
 
+def trap_ctypes():
+    for kind in (ctypes.c_uint8, ctypes.c_uint16):
+        planes = {ink: (kind * plane.size)(*plane.ravel().tolist()) for ink, plane in zip(INKS, BEFORE)}
+        trapping.trap(JOB, planes, maxval=255, width=BEFORE[0].shape[1], height=BEFORE[0].shape[0])
+        assert all(list(planes[ink]) == plane.ravel().tolist() for ink, plane in zip(INKS, AFTER))
+
+
 def shared_memory():
     one = numpy.zeros((40, 80), numpy.uint8)
     for cyan, magenta in ((one, one), (one[:20], one[10:30]), (one[:, :40], one[:, 39:79])):
@@ -125,7 +133,7 @@ def threads():
         list(pool.map(trap_apart, [numpy.uint8, numpy.uint16] * 4))
 
 
-for tried in (lambda: trap_apart(numpy.uint8), lambda: trap_apart(numpy.uint16), trap_views, trap_stacks, refused, wrong_arguments, shared_memory,
+for tried in (lambda: trap_apart(numpy.uint8), lambda: trap_apart(numpy.uint16), trap_views, trap_stacks, trap_ctypes, refused, wrong_arguments, shared_memory,
               threads):
     tried()
 print("library: NumPy arrays, views, stacks, refusals, wrong arguments and four threads, as they have to be")

@@ -14,7 +14,9 @@ if TYPE_CHECKING:
 else:
     Samples = Any
 
-_SIZES = {"B": 1, "H": 2, "|u1": 1, ("<" if sys.byteorder == "little" else ">") + "u2": 2}
+_ORDER = "<" if sys.byteorder == "little" else ">"
+# Of buffers, in the forms of array.array and of ctypes, and of NumPy's arrays.
+_SIZES = {"B": 1, "H": 2, "<B": 1, ">B": 1, _ORDER + "H": 2, "|u1": 1, _ORDER + "u2": 2}
 
 
 class Memory(NamedTuple):
