@@ -85,11 +85,40 @@ def test_inks_that_no_trap_closes_are_warned_of(room: Room) -> None:
     assert "untrapped-inks" not in room.goes("preflight", INPUTS / "rl-card-mm.pdf").out
 
 
+def moved(plane: np.ndarray, right: int, down: int) -> np.ndarray:
+    """A plane that is off by so many pixels; what comes in is 0."""
+    out = np.zeros_like(plane)
+    height, width = plane.shape
+    out[max(0, down):height + min(0, down), max(0, right):width + min(0, right)] = \
+        plane[max(0, -down):height - max(0, down), max(0, -right):width - max(0, right)]
+    return out
+
+
+def grown(mask: np.ndarray, by: int) -> np.ndarray:
+    """A mask with so many pixels around it."""
+    for axis in (0, 1):
+        mask = np.logical_or.reduce([moved(mask, *((0, step) if axis else (step, 0))) for step in range(-by, by + 1)])
+    return mask
+
+
+def film_that_shows(page: PageFolder, before: np.ndarray, after: np.ndarray, by: int) -> int:
+    """How many pixels of film lie bare that are covered in register, if the white is off by so many pixels in any of eight
+    directions."""
+    white = [ink.role for ink in page.inks].index("white")
+    colours = [at for at, ink in enumerate(page.inks) if at != white and ink.kind in ("Normal", "Opaque")]
+    film, bare = (tints[colours].astype(int).sum(axis=0) < 26 for tints in (before, after))
+    film &= before[white] < 128
+    covered = ~film & bare & ~grown(film, by)
+    shows = [covered & (moved(after[white], x * by, y * by) < 128) for x in (-1, 0, 1) for y in (-1, 0, 1) if x or y]
+    return int(np.logical_or.reduce(shows).sum())
+
+
 def test_white_spreads_under_colours(room: Room, built: None) -> None:
-    """White that is knocked out of a colour."""
-    page, before, after = trapped(room, "label-white-varnish", "--dpi", "200")
+    """White that is knocked out of a colour is trapped as the lightest ink: film that shows falls to a thirteenth."""
+    page, before, after = trapped(room, "label-white-varnish", "--preset", "offset")
     white = [ink.name for ink in page.inks].index("White_Underprint")
-    assert page.inks[white].role == "white" and int((before[white] < after[white]).sum()) > 100
+    assert page.inks[white].role == "white" and int((before[white] < after[white]).sum()) > 1000
+    assert film_that_shows(page, before, before, 2) == 18_837 and film_that_shows(page, before, after, 2) <= 1_449
 
 
 @needs("mutool")
