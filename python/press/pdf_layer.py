@@ -245,7 +245,7 @@ def drop_layer(pdf: pikepdf.Pdf) -> None:
     if not isinstance(properties, pikepdf.Dictionary):
         return
     properties.OCGs = without(properties.get("/OCGs", Array()))
-    if not len(properties.OCGs):
+    if len(properties.OCGs) == 0:
         del pdf.Root["/OCProperties"]
         return
     for config in [properties.get("/D"), *properties.get("/Configs", [])]:

@@ -349,8 +349,7 @@ def grid_spans(shape: Shape, size: tuple[float, float]) -> Iterator[tuple[int, i
     crossings: dict[int, list[tuple[float, int]]] = {}
     for points in shape:
         for (x0, y0), (x1, y1) in zip(points, points[1:] + points[:1]):
-            low, high = (y0, y1) if y0 < y1 else (y1, y0)
-            first, end = (max(0, min(GRID, math.ceil(y * GRID / height - 0.5))) for y in (low, high))
+            first, end = (max(0, min(GRID, math.ceil(y * GRID / height - 0.5))) for y in sorted((y0, y1)))
             for row in range(first, end):
                 y = (row + 0.5) * height / GRID
                 x = x0 + (x1 - x0) * (y - y0) / (y1 - y0)
