@@ -766,3 +766,11 @@ def test_a_large_page_shows_its_progress(folder, monkeypatch):
         event = heard.get(timeout=SECONDS)
     run.close()
     assert event["kind"] == "progress" and event["share"] == 2 / len(page.inked) and "67%" in event["text"]
+
+
+@pytest.mark.skipif(not shutil.which("tsc"), reason="tsc is not installed (Debian: node-typescript)")
+def test_types_of_the_app():
+    """tsc --checkJs finds nothing in the app's modules, whose types are in JSDoc."""
+    static = Path(tools.TOP) / "python" / "press" / "desk" / "static"
+    done = subprocess.run(["tsc", "-p", str(static / "tsconfig.json")], capture_output=True, text=True, check=False)
+    assert done.returncode == 0, done.stdout
