@@ -36,6 +36,7 @@ if LIBRARY:
 
 from press.desk.guard import LOOPBACK, allowed_hosts  # noqa: E402
 from press.desk.page import DeskPage  # noqa: E402
+from press.desk import page as desk_page  # noqa: E402
 from press.desk import runs  # noqa: E402
 from press.desk.job_queue import TooMuch  # noqa: E402
 from press.desk.server import application, in_time  # noqa: E402
@@ -774,3 +775,18 @@ def test_types_of_the_app():
     static = Path(tools.TOP) / "python" / "press" / "desk" / "static"
     done = subprocess.run(["tsc", "-p", str(static / "tsconfig.json")], capture_output=True, text=True, check=False)
     assert done.returncode == 0, done.stdout
+
+
+def test_versions_and_undo_are_bounded(client, monkeypatch):
+    """A slider that is pulled for long takes no more memory; the newest versions are kept."""
+    monkeypatch.setattr(desk_page, "MOST_VERSIONS", 3)
+    key = page_of(client)
+    for width in range(21_000, 27_000, 1_000):
+        assert change(client, key, {"TrapWidth": width}).status_code == 200
+    page = client.get(f"/api/pages/{key}").json()
+    assert [one["number"] for one in page["versions"]] == [5, 6, 7]
+    undone = 0
+    while page["canUndo"]:
+        page = client.post(f"/api/pages/{key}/undo", json={"version": page["version"]}).json()
+        undone += 1
+    assert undone == 3 and page["settings"]["TrapWidth"] == 23_000

@@ -27,6 +27,7 @@ from .pyramid import Pyramid, open_pyramid, plates_key
 from .thin_zones import Strokes, base_of, composed, first_strokes, rule_of
 
 MOST_VERSIONS = 100
+"""So many versions of a page can be shown again, and so many changes undone."""
 
 
 class VersionConflict(Exception):
@@ -101,7 +102,7 @@ class DeskPage:
                 before = self.text
                 self._write(made)
                 self.least = self.version
-                self.undo.append(before)
+                self.undo = [*self.undo, before][-MOST_VERSIONS:]
                 self.redo.clear()
 
     def step(self, version: int, is_undo: bool) -> None:
