@@ -1,9 +1,12 @@
 # SPDX-License-Identifier: Apache-2.0
 """The editor's blocks in a job: they go in and come out, and all other bytes stay."""
+import json
+
 import pytest
 
 from press.desk.job_edits import (EditedInk, EditedZone, Edits, apply_edits, number, pixels_of_polygon,
                                   polygon_of_pixels, rules_of, take_apart)
+from press.desk.job_sections import OWNER, sections
 from press.desk.thin_zones import composed, picture_places
 from press.job_language import read_job
 from press.rects import Rect
@@ -156,3 +159,14 @@ def test_thin_strokes_are_never_wider_than_the_zone_below_and_off_where_that_is(
 def test_holes_of_images_are_known_by_their_direction():
     """The places of images, without what is drawn above them."""
     assert sum(one.area for one in picture_places(MADE)) == pytest.approx(80 * 40 - 25)
+
+
+@pytest.mark.parametrize("zones", [(PANEL,), (PANEL, OVER)])
+def test_zones_of_the_editor_count_as_the_owners(zones):
+    """press/zones, which makes the press room's own zones anew, keeps what is of the owner: no zone that was drawn is
+    lost by it, and nothing that a rule has set aside is taken for the owner's."""
+    thin = composed(MADE, Edits({}, {}, zones), PLACES, SIZE)
+    text = apply_edits(MADE, Edits({}, {}, zones, frozenset(("images",)), thin))
+    own = b"".join(text[one.start:one.end] for one in sections(text) if one.kind == OWNER)
+    assert [own.count(f"% Zone {json.dumps(zone.name)}:".encode()) for zone in zones] == [1] * len(zones)
+    assert b"%~" not in own and own.count(b"settrapzone") == len(zones)

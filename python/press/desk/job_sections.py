@@ -11,8 +11,8 @@ from dataclasses import dataclass
 
 from press.job_language import statements
 
-HEAD, OPTIONS, OWNER, PAGE, TRIM, LAYER, THIN, PAIR, IMAGES, END = (
-    "head", "options", "owner", "page", "trim", "layer", "thin", "pair", "images", "end")
+HEAD, OPTIONS, OWNER, PAGE, TRIM, LAYER, THIN, PAIR, IMAGES, ASIDE, END = (
+    "head", "options", "owner", "page", "trim", "layer", "thin", "pair", "images", "aside", "end")
 RULES = (TRIM, THIN, IMAGES)
 TAIL = (THIN, PAIR, IMAGES, END)
 """What comes after the owner's zones."""
@@ -20,9 +20,12 @@ MARKS: Sequence[tuple[str, bytes]] = (
     (OPTIONS, rb"% Trapping parameters (?:of options and presets|that were told by words):"), (OWNER, rb"% From .*:"),
     (PAGE, rb"% The whole page:"), (TRIM, rb"% The page within its \w+ box .*:"),
     (LAYER, rb"% The layer .* \(--layer\):"),
+    # Zones that were drawn in the editor are the owner's; what a rule set aside is made anew with the rule's zones.
+    (OWNER, rb"% press desk: zones(?: over images)?"),
+    (ASIDE, rb"% press desk: (?:thin strokes|images are trapped|the whole page in place of its box)"),
     (THIN, rb"% Thin strokes \(.*:"), (IMAGES, rb"% Within images nothing is trapped.*:"),
     (PAIR, rb"% .* and .* \((?:not trapped|[\d.]+ times the trap width), .*\):"))
-MARK = re.compile(b"^(?:" + b"|".join(b"(?P<%s>%s)" % (kind.encode(), mark) for kind, mark in MARKS) + b")$", re.M)
+MARK = re.compile(b"^(?:" + b"|".join(b"(%s)" % mark for _, mark in MARKS) + b")$", re.M)
 OFF = b"%~ "
 """What a line begins with that a rule does not use while it is off."""
 
@@ -41,7 +44,7 @@ def sections(text: bytes) -> list[Section]:
     showpage. Text in which lines end otherwise than by a line feed has no other parts."""
     end = line_start(text, [one.start for one in statements(text) if one.operator == "showpage"][-1])
     marks = [] if b"\r" in text or b"\f" in text else [
-        (str(found.lastgroup), found.start()) for found in MARK.finditer(text, 0, end)]
+        (MARKS[(found.lastindex or 1) - 1][0], found.start()) for found in MARK.finditer(text, 0, end)]
     starts = [(HEAD, 0), *marks, (END, end)]
     return [Section(kind, start, after) for (kind, start), (_, after) in zip(starts, [*starts[1:], ("", len(text))])]
 
@@ -76,7 +79,7 @@ def taken_back(lines: bytes) -> bytes:
     return b"".join(line.removeprefix(OFF) for line in lines.splitlines(keepends=True) if line.startswith(OFF))
 
 
-NAMES = {HEAD: "the page", OPTIONS: "the page", PAGE: "the page", TRIM: "the page within its box",
+NAMES = {HEAD: "the page", ASIDE: "the page", OPTIONS: "the page", PAGE: "the page", TRIM: "the page within its box",
          THIN: "small type and thin lines", IMAGES: "images"}
 DESK_ZONE = re.compile(rb'^% Zone (".*"):$|^newpath .* settrapzone  (% the whole page)$', re.M)
 
