@@ -65,6 +65,15 @@ def test_pages_that_fail(room: Room) -> None:
     assert same_pages(room / "all", room / "farm") == 3
 
 
+def test_trapped_pdf_of_a_farm(room: Room) -> None:
+    """--pdf makes the trapped PDF of all pages, verified, with a link to it in the proof sheet."""
+    room.sample("three.pdf")
+    room.goes("farm", "--quiet", "--lenient", "--jobs", "2", "--dpi", "72", "--pdf", "three.pdf", "farm")
+    told = json.loads((room / "farm/three-trapped.json").read_text(encoding="utf-8"))
+    assert told["verified"] and [page["page"] for page in told["pages"]] == [1, 2, 3]
+    assert 'href="three-trapped.pdf"' in (room / "farm/proof.html").read_text(encoding="utf-8")
+
+
 def test_label_has_the_bytes_of_all(room: Room) -> None:
     """Two pages at once have the bytes of press/all, of presscheck too."""
     check = ("--check", "2") if (Path(room.environment["TRAP_BIN"]) / "presscheck").exists() else ()
