@@ -52,7 +52,7 @@ def test_repository_without_built_programs(room: Room, two: Path) -> None:
         (fresh / name).mkdir(parents=True)
     for name in ("VERSION", "programs.txt", "crates.txt", "press/trap", "tools/program"):
         shutil.copy(TOP / name, fresh / name)
-    shutil.copytree(TOP / "python" / "press", fresh / "python" / "press", ignore=shutil.ignore_patterns("__pycache__", "desk"))
+    shutil.copytree(TOP / "python" / "press", fresh / "python" / "press", ignore=shutil.ignore_patterns("__pycache__", "static"))
     (fresh / "bin" / "trapsheet").write_text('#!/bin/sh\ntouch "${0%/*}/ran"\nexit 2\n')
     (fresh / "bin" / "trapsheet").chmod(0o755)
     room.refused(3, r"press-trap: the program trapsheet is not built yet: /.*/fresh/bin/trapsheet does it, .*; or TRAP_BIN names .*",
