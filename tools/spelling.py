@@ -16,7 +16,7 @@ TOP = workspace.TOP
 DOCUMENTS = ("*.md", "docs/*.md", "*/README.md", "examples/*/README.md")
 # Words that are right here and look like misspelt others: of Rust, of manual pages, and of names.
 PASSED = "crate,crates,nd,te,bu,inforce,rouge"
-PLAIN = {"src", "ok", "th", "rects", "inkedits", "icc"}
+PLAIN = {"src", "ok", "th", "rects", "inkedits", "hotfolder", "icc"}
 SKIPPED = re.compile(r"^(crates|release|press/tests/inputs|press/inks)/|\.(png|gz|pdf|pgm|icc|edit|zip)$")
 NAME = re.compile(r"\S*[_/\\.=@<>]\S*\w|\S*\d\S*")
 
