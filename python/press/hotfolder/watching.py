@@ -7,7 +7,7 @@ import time
 from collections.abc import Callable, Sequence
 from typing import Any
 
-from .. import tools
+from .. import engine, tools
 from ..errors import PressError, Status, reason
 from ..events import Event
 from ..files import LOCK, locked, need_folder, sweep
@@ -180,7 +180,8 @@ def run_watch(folders: Sequence[HotFolder], journal: Journal, is_ready: Callable
     """Watches hot folders until this is stopped, by SystemExit."""
     # Without these every file would fail.
     tools.tool("gs")
-    tools.program("trap")
+    for hot in folders:
+        engine.trapping_program(hot.settings)
     with contextlib.ExitStack() as stack:
         stations = []
         for hot in folders:
