@@ -69,7 +69,7 @@ def test_an_open_file_waits(tmp_path: Path) -> None:
     (WHOLE + b"9 0 obj\n<< /Le", "an update at its end is cut off"), (b"no page", None),
     (b"%PDF-1.7\n1 0 obj\n<< /Linearized 1 /L 90000 /H [ 1 2 ] >>\nendobj\nstartxref\n0\n%%EOF\n",
      "its first object promises 90000 bytes, and it has 82"),
-    (WHOLE.replace(b"startxref\n", b"startxref\n9"), "its table of objects starts at 9"),
+    (WHOLE.replace(b"startxref\n", b"startxref\n9"), None),
     (b"%!PS-Adobe-3.0 EPSF-3.0\n0 0 moveto\n", "there is neither %%EOF nor showpage at its end"),
     (b"%!PS-Adobe-3.0\nshowpage\n0 0 moveto (x\n%%EOF\n", None), (b"%!PS-Adobe-3.0\n0 0 moveto showpage\nend\n", None),
     (b"%!\nshowpage\n", None), (b"\xc5\xd0\xd3\xc6" + (30).to_bytes(4, "little") + (100).to_bytes(4, "little") + bytes(60),

@@ -171,12 +171,7 @@ def lacks_end_of_pdf(head: bytes, tail: bytes, size: int) -> str | None:
     length = re.search(rb"/Linearized\b[^>]*/L\s+(\d+)", head) or re.search(rb"/L\s+(\d+)[^>]*/Linearized\b", head)
     if length and int(length[1]) > size:
         return f"its first object promises {int(length[1])} bytes, and it has {size}"
-    before, mark, after = tail.rpartition(END_MARK)
+    _, mark, after = tail.rpartition(END_MARK)
     if not mark:
         return "there is no %%EOF at its end"
-    if re.search(rb"\d+\s+\d+\s+obj\b", after):
-        return "an update at its end is cut off"
-    start = re.search(rb"startxref\s+(\d+)\s+$", before)
-    if start and int(start[1]) >= size:
-        return f"its table of objects starts at {int(start[1])}, and it has {size} bytes"
-    return None
+    return "an update at its end is cut off" if re.search(rb"\d+\s+\d+\s+obj\b", after) else None
