@@ -48,7 +48,6 @@ def bared_twice(before: Sequence[Array], after: Sequence[Array], densities: Sequ
         same = before is after or all(numpy.array_equal(old, new) for old, new in zip(*cut))
         seams = [seams_of(one, densities, radius)[own] for one in (cut[:1] if same else cut)]
         out[0][rows, columns], out[1][rows, columns] = seams[0], seams[-1]
-        release(*before, *after)
     return out[0], out[1]
 
 
@@ -82,6 +81,7 @@ def stretches(before: Sequence[Array], after: Sequence[Array], densities: Sequen
         lively = may_part(before, densities, around, starts)
         if after is not before:
             lively |= may_part(after, densities, around, starts)
+        release(*before, *after)
         for first, last in runs_of(lively):
             columns = slice(first * step, min(width, last * step))
             wide = slice(max(0, columns.start - 2 * radius), min(width, columns.stop + 2 * radius))
