@@ -14,11 +14,14 @@ with the rest of that run. On a machine with other work the multiples say more t
 --only prints the rows whose names have TEXT in them. --farm also measures press/farm on so many pages of the label. Processes are
 counted in a run of their own by strace, if it is installed.
 """
+import sys
+
+# bench/copy.py is not the module of that name.
+sys.path.append(sys.path.pop(0))
 import argparse
 import os
 import shutil
 import subprocess
-import sys
 import tempfile
 import threading
 import time
