@@ -39,6 +39,15 @@ def test_inks_are_laid_over_each_other(page: PageFolder) -> None:
     assert (light[0, 21] <= numpy.minimum(light[0, 0], light[0, 39])).all()
 
 
+@pytest.mark.parametrize("times", [1, 3, 7, 50])
+def test_small_before_and_after(page: PageFolder, times: int) -> None:
+    """Both small pictures are those that are drawn one by one."""
+    painter = picture.Painter(page, True)
+    before, after = painter.small_both(times)
+    assert (before == painter.small(painter.before, times)).all() and (after == painter.small(painter.after, times)).all()
+    assert times > 7 or (before != after).any()
+
+
 def test_traps_are_drawn_in_their_colour(page: PageFolder) -> None:
     """Where ink was added its colour is drawn; the rest is pale."""
     traps = picture.Painter(page, True).traps((0, 0, 40, 30))

@@ -126,6 +126,21 @@ class Painter:
             release(*planes)
         return numpy.concatenate(parts)
 
+    def small_both(self, times: int) -> tuple[Array, Array]:
+        """The page made small before and after trapping. What did not change is drawn once."""
+        height, step = self.before[0].shape[0], times * max(1, BAND_ROWS // times)
+        end = max(1, height // times) * times
+        before, after = [], []
+        for start in range(0, end, step):
+            rows = slice(start, min(start + step, end, height))
+            old = [mean_of(plane[rows], times) for plane in self.before]
+            new = [small if numpy.array_equal(one[rows], other[rows]) else mean_of(other[rows], times)
+                   for small, one, other in zip(old, self.before, self.after)]
+            before.append(self.laid_over(old))
+            after.append(before[-1] if all(one is other for one, other in zip(old, new)) else self.laid_over(new))
+            release(*self.before, *self.after)
+        return numpy.concatenate(before), numpy.concatenate(after)
+
     def by_profile(self, planes: Sequence[Array], profile: str) -> Array:
         """The light of planes, the process inks by a profile, and each spot by the process inks that look like it."""
         blank = numpy.full(planes[0].shape, 255, dtype="u1")

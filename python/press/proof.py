@@ -128,7 +128,7 @@ class Sheet:
     def overviews(self) -> tuple[Array, Array, Array, Array]:
         """Before, after, the traps, and the map."""
         painter = self.painter
-        before, after = painter.small(painter.before, self.times), painter.small(painter.after, self.times)
+        before, after = painter.small_both(self.times)
         traps, bare = pale(before), pale(before)
         for light, marks in zip(painter.lights, self.changes.marks):
             traps[thickened(marks, 1)[:traps.shape[0], :traps.shape[1]]] = light
