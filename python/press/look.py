@@ -15,7 +15,7 @@ from .folder import PageFolder
 from .picture import Painter, Part, Shift, usual_shifts
 from .plates import Array
 
-SPACE = 12
+SPACE, PNG_LEVEL = 12, 6
 # So many points take less than a gigabyte while a picture is drawn.
 MOST_POINTS = 100_000_000
 
@@ -48,7 +48,7 @@ def look(folder: str, out: str, options: LookOptions) -> list[str]:
     part = part_of(options.part, painter)
     need_points(part, options)
     with whole_file(out) as path:
-        Image.fromarray(drawn(painter, part, options)).save(path, format="PNG", optimize=True)
+        Image.fromarray(drawn(painter, part, options)).save(path, format="PNG", compress_level=PNG_LEVEL)
     return painter.table(part) if options.traps else []
 
 
