@@ -236,9 +236,23 @@ class Watch:
     top: Path
     child: subprocess.Popen[bytes] | None = None
     kills: int = 0
+    before: int = 0
+
+    def starts(self) -> int:
+        """How often a watch has printed that it watches the last folder."""
+        path = self.top / "errors"
+        return path.read_bytes().count(f"/{FOLDERS[-1]}\n".encode()) if path.exists() else 0
+
+    def ready(self) -> None:
+        """Waits until the watch watches all folders."""
+        self.run()
+        while self.starts() <= self.before:
+            time.sleep(0.1)
+            self.run()
 
     def start(self) -> None:
         """Starts the watch. While processes of a killed one still end, it is refused, and started again."""
+        self.before = self.starts()
         with open(self.top / "errors", "ab") as errors:
             self.child = subprocess.Popen([TOP / "press" / "watch", "--config", self.top / "watch.toml"], stdin=subprocess.DEVNULL,
                                           stdout=errors, stderr=errors, env={**os.environ, "TMPDIR": str(self.top / "temporary")})
@@ -299,12 +313,12 @@ def soak(top: Path, files: int, kills: int, seed: int) -> dict[str, int]:
                 watch.live(dice)
                 watch.end(dice.choice((signal.SIGKILL, signal.SIGKILL, signal.SIGTERM)))
             time.sleep(0.2)
-        watch.run()
+        watch.ready()
         assert watch.child is not None and watch.child.poll() is None
     finally:
         if watch.child is not None and watch.child.poll() is None:
             watch.end(signal.SIGTERM)
-    assert watch.child.returncode == 0
+    assert watch.child.returncode == 0, watch.child.returncode
     return {**check(top, book), "kills": watch.kills}
 
 
