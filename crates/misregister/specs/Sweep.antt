@@ -1,6 +1,6 @@
 -- What the count holds while it goes over the rows of a plate.
 use Rattle.std.specs.Prelude.{◌≡◌, ℕ, zero, suc, ◌+◌, ◌*◌, Bool, ◌<◌, ◌≤◌, ◌==◌, min, nat_lt}
-use Rattle.std.specs.Prelude.{vec_len, List, slice_index, if◌then◌else◌}
+use Rattle.std.specs.Prelude.{vec_capacity, vec_len, List, slice_index, if◌then◌else◌}
 use Rattle.page_model.specs.declared.parts.Plane.{Plane}
 use Rattle.plane_shapes.specs.Shapes.{wide, tall}
 use Rattle.misregister.specs.declared.room.Room.{Room}
@@ -50,6 +50,12 @@ pub record HasRoom (planes : List Plane) (room : Room) : Type 0 where
   pub row : vec_len room.row ≡ wide planes
   pub until : vec_len room.until ≡ wide planes
   pub shades : vec_len room.shades ≡ wide planes * tall planes
+
+-- the buffers have the memory that they had: nothing was allocated
+pub record KeepsMemory (old new : Room) : Type 0 where
+  pub row : vec_capacity new.row ≡ vec_capacity old.row
+  pub until : vec_capacity new.until ≡ vec_capacity old.until
+  pub shades : vec_capacity new.shades ≡ vec_capacity old.shades
 
 -- the shade of a sample of plate c beside the older plates' shade, after the first `entered` rows
 -- were asked and the first `left` ones were closed

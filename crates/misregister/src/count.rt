@@ -29,7 +29,7 @@ fn at_risk(shades: &[u8]) -> u64
 }
 
 /// The number of samples of the sheet that are at risk if each plate shifts by at most `radius` samples to each side.
-/// It reads each sample of a plate once, whatever the radius is.
+/// It reads each sample of a plate once, whatever the radius is, and allocates nothing: the buffers keep their memory.
 pub fn risk_count<L: Ledger>(
     sheet: &Sheet,
     width: u32,

@@ -2,7 +2,7 @@
 
 ghost use Rattle.std.specs.Prelude.{◌≡◌, ◌+◌, ◌-◌, ◌<◌, ◌≤◌, ◌*◌, ℕ, List, min, nat_lt, length, slice_index, if◌then◌else◌};
 ghost use Rattle.plane_shapes.specs.Shapes.{wide, tall};
-ghost use Rattle.misregister.specs.Sweep.{HasRoom, IsRowPut, IsUnderWay, at, shade};
+ghost use Rattle.misregister.specs.Sweep.{HasRoom, IsRowPut, IsUnderWay, KeepsMemory, at, shade};
 ghost use Rattle.misregister.specs.Limits.{most_radius};
 
 use crate::room::Room;
@@ -50,6 +50,7 @@ fn enter_row<L: Ledger>(
     requires radius { radius ≤ most_radius }
     requires room { HasRoom sheet.now room.old }
     ensures room { HasRoom sheet.now room.new }
+    ensures memory { KeepsMemory room.old room.new }
     ensures entered { (older : List ℕ) (left : ℕ) → left ≤ y
         → IsUnderWay sheet.now radius c older room.old y left
         → IsUnderWay sheet.now radius c older room.new (y + 1) left }
@@ -72,6 +73,7 @@ fn leave_row(sheet: &Sheet, y: u32, room: &mut Room)
     requires row { y < tall sheet.now }
     requires room { HasRoom sheet.now room.old }
     ensures room { HasRoom sheet.now room.new }
+    ensures memory { KeepsMemory room.old room.new }
     ensures left { (radius c : ℕ) (older : List ℕ) (entered : ℕ) → entered
         ≡ min (y + radius + 1) (tall sheet.now)
         → IsUnderWay sheet.now radius c older room.old entered y
@@ -95,6 +97,7 @@ fn enter_rows<L: Ledger>(
     requires radius { radius ≤ most_radius }
     requires room { HasRoom sheet.now room.old }
     ensures room { HasRoom sheet.now room.new }
+    ensures memory { KeepsMemory room.old room.new }
     ensures entered { (older : List ℕ) → IsUnderWay sheet.now radius c older room.old 0 0
         → IsUnderWay sheet.now radius c older room.new rows 0 }
     ensures steps { steps.new ≡ steps.old + wide sheet.now * rows }
@@ -118,6 +121,7 @@ fn pass_rows<L: Ledger>(
     requires radius { radius ≤ most_radius }
     requires room { HasRoom sheet.now room.old }
     ensures room { HasRoom sheet.now room.new }
+    ensures memory { KeepsMemory room.old room.new }
     ensures passed { (older : List ℕ)
         → IsUnderWay sheet.now radius c older room.old (min radius (tall sheet.now)) 0
         → IsUnderWay sheet.now radius c older room.new (tall sheet.now) rows }
@@ -135,6 +139,7 @@ fn leave_rows(sheet: &Sheet, first: u32, height: u32, room: &mut Room)
     requires height { height ≡ tall sheet.now }
     requires room { HasRoom sheet.now room.old }
     ensures room { HasRoom sheet.now room.new }
+    ensures memory { KeepsMemory room.old room.new }
     ensures left { (radius c : ℕ) (older : List ℕ) → tall sheet.now ≤ first + radius
         → first ≤ height
         → IsUnderWay sheet.now radius c older room.old (tall sheet.now) first
@@ -168,6 +173,7 @@ pub(crate) fn shade_plate<L: Ledger>(
     requires radius { radius ≤ most_radius }
     requires room { HasRoom sheet.now room.old }
     ensures room { HasRoom sheet.now room.new }
+    ensures memory { KeepsMemory room.old room.new }
     ensures shades { (x y : ℕ) → x < wide sheet.now → y < tall sheet.now
         → at room.new.shades.items (wide sheet.now) y x
         ≡ min (at room.old.shades.items (wide sheet.now) y x) (shade sheet.now radius c x y) }

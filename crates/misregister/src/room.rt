@@ -17,7 +17,8 @@ pub(crate) struct Room {
     pub(crate) shades: Vec<u8>,
 }
 
-/// The buffers in which the risk of pages of one size is counted.
+/// The buffers in which the risk of pages of one size is counted. They are allocated once. Contracts see the capacity of
+/// each, so that a function that leaves it unchanged is known to have allocated nothing.
 #[derive(Drop)]
 pub struct RiskBuf {
     width: u32,
@@ -26,12 +27,18 @@ pub struct RiskBuf {
 }
 
 impl Model for RiskBuf {
-    ghost use Rattle.std.specs.Prelude.{◌≡◌, ◌*◌, vec_len};
+    ghost use Rattle.std.specs.Prelude.{◌≡◌, ◌*◌, vec_capacity, vec_len};
     ghost use Rattle.misregister.specs.Sides.{Sides};
 
     ghost Value = { Sides };
 
-    ghost view = { λ b. record { wide = b.width; tall = b.height } };
+    ghost view = { λ b. record {
+      wide = b.width;
+      tall = b.height;
+      row = vec_capacity b.room.row;
+      until = vec_capacity b.room.until;
+      shades = vec_capacity b.room.shades;
+    } };
 
     ghost invariant = { λ b. (vec_len b.room.row ≡ b.width) × (vec_len b.room.until ≡ b.width)
         × (vec_len b.room.shades ≡ b.width * b.height) };
@@ -41,7 +48,8 @@ impl RiskBuf {
     /// Allocates the buffers for pages of `width` columns and `height` rows: a byte for each sample, and five more for
     /// each column.
     pub fn new(alloc: Global, width: u32, height: u32) -> Result<RiskBuf, OutOfMemory>
-        ensures { IfOk result (λ buf. buf ≡ record { wide = width; tall = height }) }
+        ensures wide { IfOk result (λ buf. buf.wide ≡ width) }
+        ensures tall { IfOk result (λ buf. buf.tall ≡ height) }
     {
         let row = vec_of(alloc, 0u8, width as usize)?;
         let until = vec_of(alloc, 0u32, width as usize)?;

@@ -23,6 +23,11 @@ loop-c-preserved g c =
     let planes = c.args.sheet.now in
     record {
       room = c.shade_plate.ensures.room;
+      memory = record {
+        row = c.shade_plate.ensures.memory.row ∙ c.loop-c.invariant.memory.row;
+        until = c.shade_plate.ensures.memory.until ∙ c.loop-c.invariant.memory.until;
+        shades = c.shade_plate.ensures.memory.shades ∙ c.loop-c.invariant.memory.shades;
+      };
       shades = λ x y l m. shade_more planes c.args.radius x y c.loop-c.c _ _ (c.loop-c.invariant.shades x y l m) (c.shade_plate.ensures.shades x y l m);
       steps = steps_more c.args.steps.now (wide planes * tall planes) c.loop-c.c c.loop-c.steps c.shade_plate.new.steps c.loop-c.invariant.steps c.shade_plate.ensures.steps;
     }

@@ -1,6 +1,6 @@
 -- pass_rows: asks plate c for each row that is left, and closes the row that lies `radius` above
 -- it.
-use Rattle.std.proofs.Common.{◌+◌, ◌≤◌, min, refl, arith}
+use Rattle.std.proofs.Common.{◌+◌, ◌≤◌, ◌∙◌, min, refl, arith}
 use Rattle.plane_shapes.specs.Shapes.{tall}
 use Rattle.misregister.proofs.PlateLemmas.{way_at}
 use Rattle.misregister.proofs.plate.pass_rows.Goals as goal
@@ -13,6 +13,11 @@ loop-y-preserved g c =
     let short : r ≤ tall planes = omega arith in
     record {
       room = c.leave_row.ensures.room;
+      memory = record {
+        row = c.leave_row.ensures.memory.row ∙ c.enter_row.ensures.memory.row ∙ c.loop-y.invariant.memory.row;
+        until = c.leave_row.ensures.memory.until ∙ c.enter_row.ensures.memory.until ∙ c.loop-y.invariant.memory.until;
+        shades = c.leave_row.ensures.memory.shades ∙ c.enter_row.ensures.memory.shades ∙ c.loop-y.invariant.memory.shades;
+      };
       way = λ older began.
           (let before = way_at planes r c.args.c older c.loop-y.room (y + min r (tall planes)) y (y + r) y (omega arith) refl (c.loop-y.invariant.way older began) in
           let entered = c.enter_row.ensures.entered older y (omega arith) before in
