@@ -11,9 +11,10 @@ import pytest
 import tifffile
 from conftest import Pages
 from pdf_writer import Pdf, spot
-from press import engine, inkedits, job, owner_files, pairs, watch
+from press import engine, inkedits, job, owner_files, pairs
 from press.findings import Finding
 from press.folder import PageFolder, PageSource
+from press.hotfolder.claims import is_left
 from press.inks import Ink, InkBook, Separation, inks_of_file
 from press.plates import Head, Plates, read_pgm
 from press.render import Rendering
@@ -299,7 +300,7 @@ def test_owner_files_are_judged_on_the_way(room: Room) -> None:
 
 def test_files_that_belong_to_a_page_in_a_hot_folder() -> None:
     """Tables and zones stay in the folder; a profile belongs to no page, and is moved away with its reason."""
-    assert [watch.is_left(name) for name in ("a.inks", "a.zones", "a.pairs", "a.icc", "a.pdf")] == [True, True, True, False, False]
+    assert [is_left(name) for name in ("a.inks", "a.zones", "a.pairs", "a.icc", "a.pdf")] == [True, True, True, False, False]
 
 
 def test_blanks_before_a_name_in_a_table(tmp_path: Path) -> None:
