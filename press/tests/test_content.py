@@ -191,6 +191,8 @@ def test_output_intents(tmp_path: Path) -> None:
     path = saved(tmp_path / "a.pdf", add_intent)
     assert "FOGRA51; it is not used" in texts(content.file_findings(path, Settings()))["output-intent"]
     assert "it is used" in texts(content.file_findings(path, Settings(output_intent=True)))["output-intent"]
+    both = Settings(output_intent=True, icc="press.icc")
+    assert "FOGRA51; it gives way to --icc press.icc" in texts(content.file_findings(path, both))["output-intent"]
     assert content.intent_profile(path, str(tmp_path / "out.icc"))
     assert (tmp_path / "out.icc").read_bytes() == b"profile"
     assert not content.intent_profile(saved(tmp_path / "b.pdf", lambda pdf: None), str(tmp_path / "none.icc"))

@@ -193,6 +193,16 @@ def test_notes_of_values_that_lost(room: Room) -> None:
     assert read_job(job.encode()).zones[0].parameters.trap_width == 7087
 
 
+# The press's profile
+
+def test_the_presss_profile() -> None:
+    """--icc comes before the file's own output intent."""
+    lost = ["--output-intent gives way to --icc press.icc"]
+    assert list(precedence.lost_lines(Settings(icc="press.icc", output_intent=True), [])) == lost
+    assert not list(precedence.lost_lines(Settings(icc="press.icc"), []))
+    assert not list(precedence.lost_lines(Settings(output_intent=True), []))
+
+
 # Widths that fit
 
 @pytest.mark.parametrize("dpi, given, least, most", [(600, {}, "15.42pt", "15.41pt"), (2400, {}, "3.856pt", "3.85pt"),

@@ -158,6 +158,9 @@ def test_output_intent_of_no_press(room: Room) -> None:
     assert done.status == 4 and not (room / "new").exists()
     assert done.err.splitlines()[-1].startswith("press-plates: pair.pdf: the profile of its output intent: no CMYK output profile: ")
     assert "class display" in done.err
+    (room / "press.icc").write_bytes(press_profile())
+    told = room.goes("plates", "pair.pdf", "by-icc", "--dpi", "72", "--icc", "press.icc", "--output-intent").err
+    assert told.count("--output-intent gives way to --icc press.icc") == 1
     with_intents(room, RGB_PROFILE.read_bytes(), press_profile())
     room.goes("plates", "pair.pdf", "new", "--dpi", "72", "--output-intent")
 

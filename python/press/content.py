@@ -321,8 +321,8 @@ def intent_findings(pdf: Any, settings: Settings) -> Iterator[Finding]:
     """The output intents of a file, and whether one is used."""
     names = intents_of(pdf)
     if names:
-        used = settings.output_intent
-        state = "it is used" if used else "it is not used (--output-intent uses it)"
+        unused = f"it gives way to --icc {settings.icc}" if settings.icc else "it is used"
+        state = unused if settings.output_intent else "it is not used (--output-intent uses it)"
         yield Finding("output-intent", NOTE, None, f"output intent {', '.join(names)}; {state}")
 
 

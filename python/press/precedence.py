@@ -1,5 +1,5 @@
 # SPDX-License-Identifier: Apache-2.0
-"""Which trapping parameter holds where several are given, and what lost.
+"""Which trapping parameter and which profile hold if several are given, and what lost.
 
 On the page the command line overrides files that make no zone, that of one page the one of all pages, and these
 override a preset. A zone has the parameters that its own file sets for it.
@@ -118,6 +118,8 @@ def option_values(settings: Settings) -> Iterator[tuple[str, Given, bool]]:
 def lost_lines(settings: Settings, statements: Sequence[Statement]) -> Iterator[str]:
     """A line for each value that was given for a page and does not hold there, with the one that does; of a zone's own
     values, if an option's gives way to them."""
+    if settings.icc and settings.output_intent:
+        yield f"--output-intent gives way to --icc {settings.icc}"
     files = [one for one in statements if one.path]
     whole = [one for one in files if not read(one.text).made]
     given: dict[str, list[Given]] = {}
