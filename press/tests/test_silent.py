@@ -2,6 +2,7 @@
 """What the documents say is what happens: nothing that changes plates goes unsaid."""
 import os
 import struct
+import subprocess
 from collections.abc import Iterable
 from pathlib import Path
 
@@ -211,6 +212,23 @@ def test_check_of_a_page_for_trapsheet(tmp_path: Path) -> None:
     line, = engine.check(page, "trapped", 1)
     assert line.startswith("wide.pdf: page 2: presscheck takes no page of this size") and str(tmp_path) not in line
     assert line.endswith("(at most 589 pixels per inch would fit)"), line
+
+
+DETAILS = "/TrappingDetails << /Type 1001 /ColorantDetails << /One << /NeutralDensity 0.2 %s >> /Two << /NeutralDensity 1.2 %s >> >> >>"
+
+
+@pytest.mark.parametrize("kind, parameters, changed", [
+    ("", "/TrapWidth 2", True), ("", "/TrapWidth 0.1", False), ("/ColorantType /Opaque", "/TrapWidth 2", False)])
+def test_edges_that_get_no_trap(built: None, programs: Path, tmp_path: Path, kind: str, parameters: str, changed: bool) -> None:
+    """A trap width below one pixel and opaque inks leave edges without a changed pixel, as docs/REPORT.md says."""
+    details = DETAILS % (kind, kind)
+    (tmp_path / "job").write_text(f"<< /HWResolution [72 72] {details} >> setpagedevice << {parameters} >> settrapparams "
+                                  "0 0 moveto 8 0 lineto 8 4 lineto 0 4 lineto settrapzone showpage\n")
+    for name, row in (("One", b"\x00" * 4 + b"\xff" * 4), ("Two", b"\xff" * 4 + b"\x00" * 4)):
+        (tmp_path / name).write_bytes(b"P5 8 4 255\n" + row * 4)
+    subprocess.run([programs / "trapsheet", "1", "job", "report", "One:One:one", "Two:Two:two"], cwd=tmp_path, check=True)
+    report = (tmp_path / "report").read_text()
+    assert "edges 4\n" in report and ("plate One changed 0\nplate Two changed 0\n" not in report) == changed, report
 
 
 # Files of the owner
