@@ -1,0 +1,6 @@
+//! The words of the program trapkeep.
+#![tactic(auto)]
+
+mod numbers;
+mod options;
+pub mod words;

@@ -1,0 +1,6 @@
+pub mod Causes
+pub mod Clauses
+pub mod Commands
+pub mod Endings
+pub mod Putting
+pub mod Verdicts

@@ -1,0 +1,41 @@
+-- A page that was read, its inks drawn back, and its files written.
+use Rattle.std.specs.Prelude.{◌≡◌, ℕ, IsTrue, List, length, Result, Ok, Err}
+use Rattle.keep_words.specs.Words.{KeepWords}
+use Rattle.keepaway.specs.declared.parts.RichBlack.{RichBlack}
+use Rattle.outside.specs.Causes.{AsksPrefix, RoseOnce}
+use Rattle.outside.specs.Rack.{RackState, KeepsRack}
+use Rattle.page_model.specs.declared.parts.PageParts.{PageParts}
+use Rattle.page_model.specs.Conditions.{IsPage}
+use Rattle.page_writing.specs.Writing.{Breaks, WritesAll}
+use Rattle.refusals.specs.declared.refusal.Refusal.TheVariants.{Write, Memory}
+use Rattle.trapkeep_cli.specs.declared.cause.KeepError.{KeepError}
+use Rattle.trapkeep_cli.specs.declared.cause.KeepError.TheVariants.{Page, TooWide}
+use Rattle.trapkeep_cli.specs.Commands.{IsRich, IsWide, written_names, written_plates}
+use Rattle.trapkeep_cli.specs.Verdicts.{keep_files}
+
+-- The files of this page are those of the words, which are not too wide for it.
+pub record IsKept (words : KeepWords) (page : PageParts) (rich : RichBlack) : Type 0 where
+  pub is : IsRich words rich
+  pub narrow : IsWide words page → ⊥
+
+-- What the answer says where a page is put out.
+abbrev pub AnswersPut : KeepWords → PageParts → RackState → RackState
+    → Result (Unit {0}) KeepError → Type 0
+AnswersPut words page before after (Ok nothing) = (rich : RichBlack) × IsKept words page rich
+    × WritesAll (keep_files words page rich) before after
+AnswersPut words page before after (Err (Page (Write file))) = (rich : RichBlack)
+    × IsKept words page rich
+    × Breaks (length (written_plates words)) (keep_files words page rich) file before after
+    × RoseOnce before.faults after.faults
+AnswersPut words page before after (Err TooWide) = IsWide words page × (after ≡ before)
+AnswersPut words page before after (Err (Page Memory)) = after ≡ before
+AnswersPut words page before after (Err other) = ⊥
+
+-- A page's inks are drawn back, and its files are written.
+pub record PutsPage (words : KeepWords) (page : PageParts) (before after : RackState)
+    (result : Result (Unit {0}) KeepError) : Type 0 where
+  pub valid : IsPage page
+  pub keeps : KeepsRack before after
+  pub told : IsTrue before.tells → after.told ≡ before.told
+  pub asked : AsksPrefix before.asked after.asked (written_names words)
+  pub answer : AnswersPut words page before after result

@@ -1,0 +1,40 @@
+-- What is to come of a command, by the bytes of its files. Nothing else is looked at.
+use Rattle.std.specs.Prelude.{◌≡◌, ℕ, List, [], ◌∷◌, Option, Ok}
+use Rattle.keep_pages.specs.KeptPages.{keep_report, kept_planes}
+use Rattle.keep_words.specs.Words.{KeepWords}
+use Rattle.keepaway.specs.declared.parts.RichBlack.{RichBlack}
+use Rattle.page_gather.specs.Inputs.{Makes, one_page}
+use Rattle.page_model.specs.declared.parts.PageParts.{PageParts}
+use Rattle.page_writing.specs.Files.{Written, page_files}
+use Rattle.trapkeep_cli.specs.declared.cause.KeepError.{KeepError}
+use Rattle.trapkeep_cli.specs.declared.cause.KeepError.TheVariants.{NoCommand, Page, TooWide}
+use Rattle.trapkeep_cli.specs.Commands.{IsRich, IsWide, sources_of, written_plates}
+use Rattle.verdicts.specs.Verdicts.{Targets, IsVerdict as IsPageVerdict, Refused as page_refused}
+
+-- what is to come
+pub data Verdict : Type 0 where
+  -- the job, a plate, the page or the width is refused
+  Refused : KeepError → Verdict
+  -- these files are to be written, in this order
+  Out : List Written → Verdict
+
+-- the page is not judged for files of its own
+abbrev pub no_files : Targets
+no_files = record { outputs = []; report = [] }
+
+-- the plates of a page whose inks are drawn back, and its report
+abbrev pub keep_files : KeepWords → PageParts → RichBlack → List Written
+keep_files words page rich = page_files (written_plates words) (kept_planes page rich)
+    words.report (keep_report page rich)
+
+-- The job is judged first, then each plate in order, then what they make, and at last the width.
+-- Where a file that this comes to is not there, there is no verdict.
+abbrev pub IsVerdict : (List ℕ → Option (List ℕ)) → KeepWords → Verdict → Type 0
+IsVerdict files words (Refused (Page refusal)) =
+    IsPageVerdict one_page files (sources_of words) no_files (page_refused refusal)
+IsVerdict files words (Refused TooWide) = (page : PageParts)
+    × Makes one_page files (sources_of words) (Ok page) × IsWide words page
+IsVerdict files words (Refused NoCommand) = ⊥
+IsVerdict files words (Out written) = (page : PageParts) × (rich : RichBlack)
+    × Makes one_page files (sources_of words) (Ok page) × (IsWide words page → ⊥)
+    × IsRich words rich × (written ≡ keep_files words page rich)
