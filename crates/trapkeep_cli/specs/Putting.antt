@@ -1,11 +1,16 @@
 -- A page that was read, its inks drawn back, and its files written.
-use Rattle.std.specs.Prelude.{◌≡◌, ℕ, IsTrue, List, length, Result, Ok, Err}
+use Rattle.std.specs.Prelude.{◌≡◌, ℕ, ◌*◌, ◌≤◌, All, IsTrue, List, length, Result, Ok, Err}
+use Rattle.keep_pages.specs.KeptPages.{keep_report, kept_planes}
 use Rattle.keep_words.specs.Words.{KeepWords}
 use Rattle.keepaway.specs.declared.parts.RichBlack.{RichBlack}
 use Rattle.outside.specs.Causes.{AsksPrefix, RoseOnce}
 use Rattle.outside.specs.Rack.{RackState, KeepsRack}
 use Rattle.page_model.specs.declared.parts.PageParts.{PageParts}
-use Rattle.page_model.specs.Conditions.{IsPage}
+use Rattle.page_model.specs.declared.parts.Plane.{Plane}
+use Rattle.page_model.specs.Conditions.{IsPage, IsPlane}
+use Rattle.page_model.specs.Limits.{most_samples}
+use Rattle.page_model.specs.Page.{plates}
+use Rattle.page_writing.specs.Files.{names_of}
 use Rattle.page_writing.specs.Writing.{Breaks, WritesAll}
 use Rattle.refusals.specs.declared.refusal.Refusal.TheVariants.{Write, Memory}
 use Rattle.trapkeep_cli.specs.declared.cause.KeepError.{KeepError}
@@ -17,6 +22,18 @@ use Rattle.trapkeep_cli.specs.Verdicts.{keep_files}
 pub record IsKept (words : KeepWords) (page : PageParts) (rich : RichBlack) : Type 0 where
   pub is : IsRich words rich
   pub narrow : IsWide words page → ⊥
+  pub named : names_of (keep_files words page rich) ≡ written_names words
+
+-- These planes and this report are those of the page, and the planes are in range.
+pub record IsKeptPage (words : KeepWords) (page : PageParts) (planes : List Plane)
+    (report : List ℕ) : Type 0 where
+  pub rich : RichBlack
+  pub is : IsRich words rich
+  pub planes_are : planes ≡ kept_planes page rich
+  pub report_is : report ≡ keep_report page rich
+  pub in_range : All IsPlane planes
+  pub small : All (λ plane. plane.width * plane.height ≤ most_samples) planes
+  pub as_many : length planes ≡ plates page
 
 -- What the answer says where a page is put out.
 abbrev pub AnswersPut : KeepWords → PageParts → RackState → RackState

@@ -4,8 +4,9 @@ ghost use Rattle.std.specs.Prelude.{◌≡◌, ◌≤◌, ◌<◌, ◌↔◌, If
 ghost use Rattle.page_model.specs.Page.{plates};
 ghost use Rattle.keep_words.specs.Held.{IsWithin, keep_in};
 ghost use Rattle.keepaway.specs.Rows.{Reaches};
-ghost use Rattle.trapkeep_cli.specs.Commands.{IsRich, IsWide};
-ghost use Rattle.trapkeep_cli.specs.Putting.{PutsPage};
+ghost use Rattle.page_model.specs.Limits.{most_plates};
+ghost use Rattle.trapkeep_cli.specs.Commands.{IsRich, IsWide, written_plates};
+ghost use Rattle.trapkeep_cli.specs.Putting.{IsKeptPage, PutsPage};
 
 use crate::cause::KeepError;
 use keep_pages::laws::kept_planes_law;
@@ -42,4 +43,65 @@ fn rich_of(alloc: Global, command: &KeepArgs<'_>) -> Result<RichBlack, OutOfMemo
         limit: command.limit,
         spared: spared_names(alloc, command.options)?,
     })
+}
+
+// The page with its inks drawn back.
+fn kept_of(alloc: Global, command: &KeepArgs<'_>, page: &Page) -> Result<Kept, OutOfMemory>
+    requires within { IsWithin command.now }
+    requires narrow { IsWide (keep_in command.now) page.now → ⊥ }
+    ensures { IfOk result (λ kept. IsKeptPage (keep_in command.now) page.now
+        kept.planes kept.report) }
+{
+    let rich = rich_of(alloc, command)?;
+    kept_planes_law(page, &rich);
+    let kept = keep_page(alloc, page, &rich)?;
+    Ok(kept)
+}
+
+// Writes the plates and the report.
+fn write_kept<R: Rack>(
+    command: &KeepArgs<'_>,
+    page: &Page,
+    kept: Kept,
+    outputs: &[&str],
+    rack: &mut R,
+) -> Result<(), KeepError>
+    requires narrow { IsWide (keep_in command.now) page.now → ⊥ }
+    requires kept { IsKeptPage (keep_in command.now) page.now kept.planes kept.report }
+    requires outputs { map (λ file. file.now) outputs.now ≡ written_plates (keep_in command.now) }
+    requires count { plates page.now ≡ length command.now.plates.now }
+    requires few { plates page.now ≤ most_plates }
+    ensures { PutsPage (keep_in command.now) page.now (R.state rack.old) (R.state rack.new) result }
+{
+    let _valid = page.plates();
+    let Kept { planes, report } = kept;
+    match write_page(rack, outputs, planes, command.report, report.as_slice()) {
+        Ok(()) => Ok(()),
+        Err(refusal) => Err(KeepError::Page(refusal)),
+    }
+}
+
+/// Draws the inks of a page back, and writes its plates and its report. All memory is allocated before the first file is
+/// created.
+pub(crate) fn put_page<R: Rack>(
+    alloc: Global,
+    command: &KeepArgs<'_>,
+    page: &Page,
+    rack: &mut R,
+) -> Result<(), KeepError>
+    requires within { IsWithin command.now }
+    requires count { plates page.now ≡ length command.now.plates.now }
+    ensures { PutsPage (keep_in command.now) page.now (R.state rack.old) (R.state rack.new) result }
+{
+    let _valid = page.plates();
+    if is_wide(command, page) {
+        return Err(KeepError::TooWide);
+    }
+    match (
+        plate_outputs(alloc, command.plates),
+        kept_of(alloc, command, page),
+    ) {
+        (Ok(outputs), Ok(kept)) => write_kept(command, page, kept, outputs.as_slice(), rack),
+        _ => Err(KeepError::Page(Refusal::Memory)),
+    }
 }

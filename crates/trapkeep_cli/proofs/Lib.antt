@@ -1,0 +1,4 @@
+pub mod CarryLemmas
+pub mod ClauseLemmas
+pub mod OneVerdict
+pub mod PutLemmas

@@ -1,0 +1,19 @@
+-- kept_of: the page with its inks drawn back.
+use Rattle.std.proofs.Common.{◌≤◌, ◌*◌, ◌∙◌, All, List, ap, length, sym, subst}
+use Rattle.page_model.specs.declared.parts.Plane.{Plane}
+use Rattle.page_model.specs.Conditions.{IsPlane}
+use Rattle.page_model.specs.Limits.{most_samples}
+use Rattle.trapkeep_cli.proofs.page.kept_of.Goals as goal
+
+pub returns : goal.returns
+returns c =
+    let same = c.in_ok-kept.ensures.planes in
+    record {
+      rich = c.in_ok-rich.rich;
+      is = c.in_ok-rich.ensures;
+      planes_are = same;
+      report_is = c.in_ok-kept.ensures.report;
+      in_range = subst (λ (planes : List Plane). All IsPlane planes) (sym same) c.kept_planes_law.ensures.planes;
+      small = subst (λ (planes : List Plane). All (λ (plane : Plane). plane.width * plane.height ≤ most_samples) planes) (sym same) c.kept_planes_law.ensures.samples;
+      as_many = ap (λ (planes : List Plane). length planes) same ∙ c.kept_planes_law.ensures.count;
+    }
