@@ -1,0 +1,19 @@
+//! The program `trapkeep`: passes its words, the disk and standard output to the top call.
+#![tactic(auto)]
+
+use outside::disk_rack::DiskRack;
+use outside::disk_tray::DiskTray;
+use refusals::words::words;
+use std::process::ExitCode;
+use trapkeep_cli::top::trapkeep_main;
+
+fn main(rt: HostRuntime) -> ExitCode {
+    match words(&rt) {
+        Ok(words) => {
+            let mut tray = DiskTray::new(&rt);
+            let mut rack = DiskRack::new(&rt);
+            ExitCode::from(trapkeep_main(rt.alloc(), &words, &mut tray, &mut rack))
+        }
+        Err(status) => ExitCode::from(status),
+    }
+}
