@@ -17,6 +17,8 @@ def plate(width, height, row):
 
 
 PAIR = {"Cyan": plate(6, 1, "000000FFFFFF"), "Magenta": plate(6, 1, "FFFFFF000000"), "job": job("/TrapWidth 2")}
+# Magenta is dark enough to be a black, and cyan lies under it alone.
+RICH = {"Cyan": PAIR["Magenta"], "Magenta": PAIR["Magenta"], "job": job("/TrapWidth 2 /BlackDensityLimit 0.7")}
 LINES = (".5 .5 moveto 2.5 .5 lineto 2.5 1.5 lineto .5 1.5 lineto settrapzone "
          ".5 .5 moveto 0 0 rmoveto 2 0 rlineto 0 1 rlineto -2 0 rlineto settrapzone showpage")
 ZONES = {"Cyan": plate(4, 2, "00000000"), "job": job("/TrapWidth 2", end=LINES)}

@@ -84,6 +84,7 @@ def runs() -> List[Run]:
         Run("trapset", ("apply", "job", "Ink0.pgm:out.pgm"), 8),
         Run("presscheck", ("16", "job", *inputs), 0),
         Run("presscheck", ("16", "bad", *inputs), 3),
+        *pages("trapkeep", ("--rich-black", "1")),
         Run("trappool", ("64", "list"), 0),
         Run("trappool", ("64", "bad"), 3),
     ]

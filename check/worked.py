@@ -6,7 +6,9 @@ Each value was worked out by hand from the rule or the public format, and none i
 """
 import sys
 
-from slow import run, trapkeep
+from slow import run
+from slow.refusals import Refusal
+from slow.trapkeep import run_all
 from slow.entries import S
 from slow.outside import Held
 from slow.pages import zone_reach
@@ -427,10 +429,19 @@ def keep(options, plates, names=("Cyan", "Black"), more="", resolution=72, width
              for name, tints in zip(names, plates)}
     outside = Held(dict(files, job=job("", more, resolution, end)))
     words = [*options, "job", "report", *("%s:%s:%s.out" % (name, name, name) for name in names)]
-    status = run("trapkeep", words, outside)
+    status = status_of(words, outside)
     new = [outside.files.get(name + ".out") for name in names]
     report = outside.files.get("report", b"").decode().splitlines()
     return (status, outside.told), [data and [255 - byte for byte in data[-len(plates[0]):]] for data in new], report
+
+
+def status_of(words, outside):
+    """The status of a run of `trapkeep` with both of its uses; what is refused is told."""
+    try:
+        return run_all(words, outside) or 0
+    except Refusal as refusal:
+        outside.tell(refusal.line + "\n")
+        return refusal.status
 
 
 def rich_black():
@@ -497,7 +508,7 @@ def keep_words():
                     [*one, *white], [*one, "--except", "Red"],
                     ["--underprint", "Cyan"], ["--underprint", "Red=1"], [*white, "--underprint", "Cyan=2"],
                     ["--except", "Cyan"], [*one, "--quiet"], ["--rich-black=1"]):
-        check("words %r" % options, keep(options, plates)[0], (2, "usage: " + trapkeep.USAGE + "\n"))
+        check("words %r" % options, keep(options, plates)[0], (2, "usage: " + USAGES["trapkeep"] + "\n"))
     for options in ([*one, "--"], ["--black-limit", ".5", *one, "--except", "Cyan", "--except", "Black"],
                     ["--underprint", "Cyan=1", "--underprint", "Black=0"], ["--rich-black", "0" * 99 + ".5"],
                     [*one, "--except", "Cyan", "--except", "Cyan"], ["--rich-black", "100.00009"]):

@@ -13,8 +13,6 @@ from .refusals import Refusal
 
 # Each program is the call `run` of the module of its name.
 PROGRAMS = {name: importlib.import_module("slow." + name).run for name in NAMES}
-# Its program is not built yet, so it is no row of the table.
-PROGRAMS.setdefault("trapkeep", importlib.import_module("slow.trapkeep").run)
 
 
 def run(program, words, outside):

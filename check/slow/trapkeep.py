@@ -6,15 +6,11 @@ from collections import namedtuple
 from . import refusals
 from .entries import S
 from .keepaway import PIXEL, RichBlack, Underprint
-from .pages import assemble, judged_job, read_job, read_plate
-from .plates import SHEET
+from .pages import gather
 from .rule import rule_of
-from .trapsheet import judge_sheet
 from .words import NoCommand, judge_distinct, named_plates
-from .writing import write_file, write_side_by_side
+from .writing import write_page
 
-USAGE = ("trapkeep --rich-black WIDTH [--black-limit LIMIT] [--except NAME] ... JOB REPORT NAME:IN:OUT ... | "
-         "trapkeep --underprint NAME=WIDTH ... JOB REPORT NAME:IN:OUT ...")
 USUAL_LIMIT = 8500
 WIDEST = 100 * S
 MOST_PIXELS = 128
@@ -24,21 +20,25 @@ Uses = namedtuple("Uses", "width limit spared underprints")
 
 
 def run(words, outside):
+    """The program as it is: without underprints."""
+    if "--underprint" in words:
+        raise refusals.usage("trapkeep")
+    run_all(words, outside)
+
+
+def run_all(words, outside):
+    """The program with both uses."""
     try:
         uses, rest = options_of(words)
         job, report_name, names, inputs, outputs = files_of(rest)
         judge_uses(uses, names)
     except NoCommand:
-        raise refusals.Refusal("usage: " + USAGE, refusals.USAGE)
-    judged = judged_job(read_job(outside, job))
-    plates = [read_plate(outside, name, number, SHEET) for number, name in enumerate(inputs)]
-    page = assemble(judged, plates, names, SHEET)
-    judge_sheet(page)
+        raise refusals.usage("trapkeep")
+    page, plates = gather(outside, job, names, inputs)
     judge_widths(uses, page.resolution)
     use = use_of(uses, page)
     new = use.new_planes()
-    write_side_by_side(outside, outputs, plates, new)
-    write_file(outside, report_name, report(use, page, new).encode("ascii"), "report")
+    write_page(outside, outputs, report_name, plates, new, report(use, page, new))
 
 
 def options_of(words):

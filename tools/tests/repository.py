@@ -9,7 +9,7 @@ import unittest
 from pathlib import Path
 
 TOP = Path(__file__).resolve().parent.parent.parent
-PROGRAMS = ("trap", "trapsheet", "traprun", "trappool", "trapset", "presscheck")
+PROGRAMS = ("trap", "trapsheet", "traprun", "trappool", "trapset", "presscheck", "trapkeep")
 # File times are a few milliseconds apart at least.
 STEP = 0.05
 
@@ -22,7 +22,7 @@ def write_program(path: Path, text: str) -> None:
 
 
 class RepositoryTest(unittest.TestCase):
-    """Gives each test a repository with one library, `lists`, below six programs, and the real tools."""
+    """Gives each test a repository with one library, `lists`, below the programs, and the real tools."""
 
     def setUp(self) -> None:
         folder = tempfile.TemporaryDirectory()

@@ -67,7 +67,7 @@ pub page_unread : (words : KeepWords) (a b : TrayState) (r : RackState) (refusal
 page_unread words a b r refusal (inl (same, is)) =
     let memory : refusal ≡ refusals.Memory = cc in
     subst (λ (t : TrayState). CarriesOut words a t r r (Err (causes.Page refusal))) (sym same)
-      (subst (λ (e : Refusal). CarriesOut words a a r r (Err (causes.Page e))) (sym memory) (not_begun words a r))
+    (subst (λ (e : Refusal). CarriesOut words a a r r (Err (causes.Page e))) (sym memory) (not_begun words a r))
 page_unread words a b r refusal (inr reads) = not_read words a b r refusal reads
 
 -- The page was read, and is put out.

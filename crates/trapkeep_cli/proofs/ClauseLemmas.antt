@@ -207,7 +207,7 @@ module _ (words : List (List ℕ)) (t t' : TrayState) (r r' : RackState) (status
 
   write_cause : Ends words t t' r r' status → status ≡ 6 → Rose r.faults r'.faults
   write_cause (Ends.no_command none same refuses) s = absurd (omega (arith, refuses.status_is))
-  write_cause (Ends.command keep also ended) s = 
+  write_cause (Ends.command keep also ended) s =
       (let broke = (unwritten_by keep t t' r r' status (ending keep t t' r r' status ended) s).1 in
       breaks_cause (length (written_plates keep)) broke.written broke.file r r' broke.breaks)
 
