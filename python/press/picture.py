@@ -271,7 +271,7 @@ def need_profile(path: str) -> None:
     """Refuses a file that is not the profile of a press with four inks, or that cannot be read whole."""
     need_press_profile(path)
     try:
-        ImageCms.getOpenProfile(path)
+        ImageCms.getOpenProfile(path)  # type: ignore[no-untyped-call]
     except (OSError, ImageCms.PyCMSError) as fault:
         raise PressError(Status.INPUT, reason(fault), path) from fault
 

@@ -94,11 +94,12 @@ def trap_window(job: Job, names: Sequence[str], window: Samples, *, sheet: Tuple
 def halo(job: Job) -> int:
     """The rows and columns that a window needs around its core, on each side that is not a border of the sheet.
 
-    It is how far the job's widest trap reaches, rounded up to whole samples, and at least one. Raises Refusal if the job has a
-    fault."""
+    It is how far the job's widest trap reaches, rounded up to whole samples, and at least one. Raises Refusal if the
+    job has a fault."""
     data, number = job_bytes(job), ctypes.c_uint32(0)
     text, length = ctypes.create_string_buffer(_TEXT_SIZE), ctypes.c_size_t(0)
-    status = export("trap_halo")(data, len(data), ctypes.byref(number), ctypes.addressof(text), _TEXT_SIZE, ctypes.byref(length))
+    status = export("trap_halo")(data, len(data), ctypes.byref(number), ctypes.addressof(text), _TEXT_SIZE,
+                                 ctypes.byref(length))
     _text(status, text, length)
     return number.value
 
@@ -113,7 +114,8 @@ def _check(name: str, memory: Memory, first: Memory, width: int, height: int) ->
     """Checks that a plane has the size and type of its page."""
     if memory.size != first.size:
         raise ValueError("plane %s has samples of %d bytes, and the first of %d" % (name, memory.size, first.size))
-    if memory.sample_count() != width * height or len(memory.shape) > 2 or (len(memory.shape) == 2 and memory.shape != (height, width)):
+    is_rows = len(memory.shape) == 1 or memory.shape == (height, width)
+    if memory.sample_count() != width * height or not is_rows:
         raise ValueError("plane %s is %r, not a plane of %d rows by %d columns" % (name, memory.shape, height, width))
     if memory.strides[-1] != memory.size:
         raise ValueError("the samples of a row of plane %s must be adjacent" % name)
@@ -122,7 +124,8 @@ def _check(name: str, memory: Memory, first: Memory, width: int, height: int) ->
 def _are_adjacent(planes: List[Memory], width: int, height: int) -> bool:
     """Whether the planes are adjacent in memory."""
     plane = width * height * planes[0].size
-    return all(memory.is_packed() and memory.address == planes[0].address + c * plane for c, memory in enumerate(planes))
+    first = planes[0].address
+    return all(memory.is_packed() and memory.address == first + c * plane for c, memory in enumerate(planes))
 
 
 def _text(status: int, text: Any, length: Any) -> str:
@@ -133,8 +136,8 @@ def _text(status: int, text: Any, length: Any) -> str:
     return str(printed)
 
 
-def _call(job: Job, names: Sequence[str], address: int, size: int, width: int, height: int, step: int, maxval: Optional[int],
-          count: int, place: Optional[Place] = None) -> Report:
+def _call(job: Job, names: Sequence[str], address: int, size: int, width: int, height: int, step: int,
+          maxval: Optional[int], count: int, place: Optional[Place] = None) -> Report:
     """Calls the library on samples in memory: of a page, or of a window if there is a place."""
     if maxval is None:
         maxval = 255 if size == 1 else 65535
