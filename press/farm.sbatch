@@ -11,8 +11,8 @@
 # sbatch was called in; or else the installed command "press" is taken. IN.pdf, OUT and the commands must have the same paths on all
 # nodes.
 #
-# Where PRESS_LOCAL names a folder on the node's own disk, the page is made there, and put into OUT when it is done: with
-# --tiff-only its plates then never go over the network.
+# Where PRESS_LOCAL names a folder on the node's own disk, press/all makes the page there, and moves it into OUT when it is done: with
+# --tiff-only its plates then never go over the network. OUT/job.json has the page as if it had been made in OUT.
 
 # SPDX-License-Identifier: Apache-2.0
 set -u
@@ -30,22 +30,4 @@ else
   echo "$name: no press commands in $press, and no command press: set PRESS to their folder" >&2
   exit 3
 fi
-[ -n "${PRESS_LOCAL-}" ] || exec "${all[@]}" --page "$page" --quiet "$@"
-
-# IN.pdf and OUT come first here.
-in=$1 out=$2
-shift 2
-work=$(mktemp -d "$PRESS_LOCAL/press-XXXXXX") || exit 8
-trap 'rm -rf "$work"' EXIT
-trap 'exit 143' TERM
-"${all[@]}" --page "$page" --quiet "$in" "$work/out" "$@" &
-wait $!
-status=$?
-# What came of the page takes the place of what an earlier run made of it.
-made=("$work"/out/page-*)
-[ -d "${made[0]}" ] || exit "$status"
-final=$out/$(basename "${made[0]}") beside=$out/.press-$$-$(hostname)-$(printf '%08d' "$page")
-if ! { mkdir -p "$out" && cp -r "${made[0]}" "$beside"; }; then rm -rf "$beside"; exit 8; fi
-rm -rf "$final" "${final%.failed}" "${final%.failed}.failed"
-mv -T "$beside" "$final" || exit 8
-exit "$status"
+exec "${all[@]}" --page "$page" --quiet "$@"

@@ -150,14 +150,24 @@ def fail_mixed(job: JobFolder, pages: Sequence[int], line: str) -> list[PageFail
     return failed
 
 
-def gather(job: JobFolder) -> None:
-    """Takes the records of the page folders into that of the job. Runs of single pages do so one after another."""
+def gather(job: JobFolder, pages: Sequence[int] = ()) -> None:
+    """Takes the records of the page folders into that of the job: of all pages, or of these alone. Runs of single pages
+    do so one after another."""
     with changing_record(job.path) as record:
-        done, failed = job.pages()
-        found = {}
-        for number, folder in [*((number, job.failed(number)) for number in failed), *done.items()]:
+        found: Record = dict(record.get(PAGES, {})) if pages else {}
+        for number, folder in folders_of(job, pages).items():
+            found.pop(str(number), None)
             with contextlib.suppress(PressError):
                 part = page_of(read_record(folder), number)
                 if part:
                     found[str(number)] = part
         record[PAGES] = sorted_pages(found)
+
+
+def folders_of(job: JobFolder, pages: Sequence[int]) -> dict[int, str]:
+    """The folders of these pages, or of all that are of this job's file. The others are not even looked at: an array
+    job has thousands, over a network."""
+    if pages:
+        return {number: job.page(number) if os.path.isdir(job.page(number)) else job.failed(number) for number in pages}
+    done, failed = job.pages()
+    return {**{number: job.failed(number) for number in failed}, **done}
