@@ -39,6 +39,7 @@ from press.desk.page import DeskPage  # noqa: E402
 from press.desk import page as desk_page  # noqa: E402
 from press.desk import runs  # noqa: E402
 from press.desk.job_queue import TooMuch  # noqa: E402
+from press.desk.serve import Where, bound_socket  # noqa: E402
 from press.desk.server import application, in_time  # noqa: E402
 from press.desk.said import digest_of
 from press.desk.store import Store  # noqa: E402
@@ -408,6 +409,25 @@ def test_the_command_serves_and_ends(folder):
         finally:
             server.terminate()
         assert server.wait(SECONDS) == 0
+
+
+def test_answers_are_sent_at_once():
+    """A connection to the server does not wait for the browser's acknowledgement before it sends the rest."""
+    async def connected():
+        taken = asyncio.get_running_loop().create_future()
+
+        def accept(_, writer):
+            held = writer.get_extra_info("socket")
+            taken.set_result(held.getsockopt(socket.IPPROTO_TCP, socket.TCP_NODELAY))
+            writer.close()
+        with bound_socket(Where(0)) as listening:
+            server = await asyncio.start_server(accept, sock=listening)
+            _, writer = await asyncio.open_connection(*listening.getsockname())
+            found = await asyncio.wait_for(taken, SECONDS)
+            writer.close()
+            server.close()
+        return found
+    assert asyncio.run(connected())
 
 
 def test_digests_of_pages_differ(folder):
