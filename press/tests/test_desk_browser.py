@@ -104,6 +104,13 @@ class Desk:
         data = self.browser.execute_async_script(script).partition(",")[2]
         return np.asarray(image.open(io.BytesIO(base64.b64decode(data))).convert("RGB"))
 
+    def live_picture(self):
+        """The live canvas that was drawn last, with its place on the page."""
+        data, left, top = self.browser.execute_script(
+            "const {canvas, part} = desk.view.picture; return [canvas.toDataURL(), ...JSON.parse(part).slice(1, 3)]")
+        found = image.open(io.BytesIO(base64.b64decode(data.partition(",")[2]))).convert("RGB")
+        return np.asarray(found), left, top
+
     def close(self):
         """Ends both."""
         self.browser.quit()
@@ -158,6 +165,26 @@ def test_a_new_width_is_seen_at_once_and_is_that_of_the_command(desk, tmp_path):
     page = desk.folder / "made" / "page-001"
     assert np.array_equal(desk.picture(), colours_of(page)) and not np.array_equal(desk.picture(), before)
     assert files_of(page) == trapped_by_command(page, tmp_path / "again")
+
+
+def test_changes_at_one_to_one_take_a_request_each_and_are_exact(desk):
+    """The answer to a change has the pixels. Each live picture is that of the plates which follow: the first one, and
+    those that are drawn over it."""
+    desk.open()
+    desk.close_up()
+    desk.settle()
+    desk.wait("return desk.view.base.key !== ''")
+    page = desk.folder / "made" / "page-001"
+    for version, width in enumerate((3.5, 1, 5), 2):
+        desk.browser.execute_script("performance.clearResourceTimings()")
+        desk.set("set-TrapWidth", width)
+        desk.wait(f"return desk.app.page.shown === {version}")
+        desk.settle()
+        asked = desk.browser.execute_script("return performance.getEntriesByType('resource').map((one) => one.name)")
+        assert [one.rpartition("/")[2] for one in asked if one.endswith(("/edits", "/view"))] == ["edits"]
+        pixels, left, top = desk.live_picture()
+        height, width = pixels.shape[:2]
+        assert np.array_equal(pixels, colours_of(page)[top:top + height, left:left + width])
 
 
 def test_a_zone_is_drawn_changed_undone_and_kept(desk, tmp_path):

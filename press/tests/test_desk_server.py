@@ -226,6 +226,27 @@ def test_a_view_of_changes_is_the_view(client):
     assert count and np.array_equal(picture, view(client, key))
 
 
+def test_the_answer_to_a_change_has_what_is_visible(client, folder):
+    """The page, and behind it the pixels; undo has them too. With a view that is none nothing is changed."""
+    key, job = page_of(client), folder / "made" / "page-001" / "page.job"
+    before, asked = job.read_bytes(), {"left": 5, "top": 7, "width": 140, "height": 100, "mode": "after", "inks": 65535}
+    edits = {"settings": {"TrapWidth": 60_000}, "zones": [], "inks": {}}
+    first = view(client, key)
+
+    def page_and_pixels(answer):
+        length = int.from_bytes(answer.content[:4], "little")
+        return json.loads(answer.content[4:4 + length]), np.frombuffer(answer.content[4 + length:], "u4")
+    page, pixels = page_and_pixels(client.post(
+        f"/api/pages/{key}/edits", json={"version": 1, "edits": edits, "view": asked}))
+    assert page["version"] == 2 and page["settings"]["TrapWidth"] == 60_000
+    assert np.array_equal(pixels, view(client, key)) and not np.array_equal(pixels, first)
+    page, pixels = page_and_pixels(client.post(f"/api/pages/{key}/undo", json={"version": 2, "view": asked}))
+    assert page["version"] == 3 and np.array_equal(pixels, first)
+    bad = {"version": 3, "edits": edits, "view": {**asked, "left": WIDTH}}
+    assert client.post(f"/api/pages/{key}/edits", json=bad).status_code == 400
+    assert job.read_bytes() == before and client.get(f"/api/pages/{key}").json()["version"] == 3
+
+
 def test_plates_out_of_register_are_drawn_so(client):
     """A plate that is moved by whole pixels; paper comes in at the border."""
     key, shifts = page_of(client), [[3, -2], [0, 0], [0, 0], [0, 0]]

@@ -14,9 +14,10 @@ import re
 from collections.abc import Mapping, Sequence
 from dataclasses import dataclass, field, fields
 
-from press.job_language import KEYS, SCALE, Parameters, Point, Subpath, in_force, read_job, statements, ten_thousandths
+from press.job_language import KEYS, SCALE, Parameters, Point, Subpath, in_force, ten_thousandths
 
 from .job_sections import IMAGES, OFF, THIN, TRIM, line_start, section_of, sections, set_aside, tail_start, taken_back
+from .reading import read_job, statements
 
 BEGIN, ENDED = "% press desk: {}\n", "% press desk: end of {}\n"
 PAGE, BELOW, ABOVE = "the page", "zones", "zones over images"
@@ -67,8 +68,7 @@ def apply_edits(original: bytes, edits: Edits) -> bytes:
         if kind in edits.off or new is not None:
             text = _replaced(text, kind, "" if kind in edits.off else new or "")
     end = line_start(text, [one for one in statements(text) if one.operator == "showpage"][-1].start)
-    block = _zones_block(above, _base_of(text), in_force(text, end), "" if _has_zones(text) else WHOLE_PAGE)
-    return _insert(text, end, _block(ABOVE, block))
+    return _insert(text, end, _block(ABOVE, _zones_block(above, text, end)))
 
 
 def below_thin(original: bytes, edits: Edits) -> bytes:
@@ -77,8 +77,7 @@ def below_thin(original: bytes, edits: Edits) -> bytes:
     if TRIM in edits.off:
         text = _replaced(text, TRIM, WHOLE_PAGE)
     below, at = [zone for zone in edits.zones if not zone.over_images], tail_start(text)
-    block = _zones_block(below, _base_of(text), in_force(text, at), "" if _has_zones(text) else WHOLE_PAGE)
-    return _insert(text, at, _block(BELOW, block))
+    return _insert(text, at, _block(BELOW, _zones_block(below, text, at)))
 
 
 def take_apart(text: bytes) -> tuple[bytes, Edits]:
@@ -147,15 +146,6 @@ def zone_statements(zone: EditedZone, base: Parameters) -> str:
     return f"% Zone {json.dumps(zone.name)}:\n{dictionary(all_of(base))}{own}{path}"
 
 
-def _base_of(text: bytes) -> Parameters:
-    zones = read_job(text).zones
-    return zones[min(1, len(zones) - 1)].parameters
-
-
-def _has_zones(text: bytes) -> bool:
-    return len(read_job(text).zones) > 1
-
-
 def _replaced(text: bytes, kind: str, new: str) -> bytes:
     """The job with other statements in place of a part's, which stays as a comment. What follows finds the parameters
     that it had after the part."""
@@ -191,11 +181,16 @@ def _page_block(edits: Edits) -> str:
     return lines
 
 
-def _zones_block(zones: Sequence[EditedZone], base: Parameters, after: Parameters, whole: str) -> str:
-    """Zones with the page's own parameters below theirs; then what follows finds the parameters that it had."""
+def _zones_block(zones: Sequence[EditedZone], text: bytes, at: int) -> str:
+    """Zones for a place of a job, with the page's own parameters below theirs; then what follows finds the parameters
+    that it had."""
     if not zones:
         return ""
-    return whole + "".join(zone_statements(zone, base) for zone in zones) + RESTORE + dictionary(all_of(after))
+    job = read_job(text)
+    whole = "" if len(job.zones) > 1 else WHOLE_PAGE
+    base = job.zones[min(1, len(job.zones) - 1)].parameters
+    statements_of_zones = "".join(zone_statements(zone, base) for zone in zones)
+    return whole + statements_of_zones + RESTORE + dictionary(all_of(in_force(text, at)))
 
 
 def _block(name: str, lines: str) -> bytes:

@@ -8,8 +8,9 @@ import json
 import re
 from collections.abc import Sequence
 from dataclasses import dataclass
+from functools import lru_cache
 
-from press.job_language import statements
+from .reading import MOST_TEXTS, statements
 
 HEAD, OPTIONS, OWNER, PAGE, TRIM, LAYER, THIN, PAIR, IMAGES, ASIDE, END = (
     "head", "options", "owner", "page", "trim", "layer", "thin", "pair", "images", "aside", "end")
@@ -39,14 +40,16 @@ class Section:
     end: int
 
 
-def sections(text: bytes) -> list[Section]:
+@lru_cache(MOST_TEXTS)
+def sections(text: bytes) -> tuple[Section, ...]:
     """The parts of a job in their order. One that was written by hand has a head, and an end that begins with
     showpage. Text in which lines end otherwise than by a line feed has no other parts."""
     end = line_start(text, [one.start for one in statements(text) if one.operator == "showpage"][-1])
     marks = [] if b"\r" in text or b"\f" in text else [
         (MARKS[(found.lastindex or 1) - 1][0], found.start()) for found in MARK.finditer(text, 0, end)]
     starts = [(HEAD, 0), *marks, (END, end)]
-    return [Section(kind, start, after) for (kind, start), (_, after) in zip(starts, [*starts[1:], ("", len(text))])]
+    ends = [*starts[1:], ("", len(text))]
+    return tuple(Section(kind, start, after) for (kind, start), (_, after) in zip(starts, ends))
 
 
 def section_of(text: bytes, kind: str) -> Section | None:

@@ -13,7 +13,7 @@ from typing import Any
 from press import folder as folders
 from press.files import whole_file
 from press.folder import PageFolder
-from press.job_language import KEYS, Job, read_job
+from press.job_language import KEYS, Job
 from press.names import readable
 from press.picture import light_of
 
@@ -24,6 +24,7 @@ from .job_sections import THIN, zone_names
 from .kept import Kept
 from .live import InkNames, LivePage
 from .pyramid import Pyramid, open_pyramid, plates_key
+from .reading import read_job
 from .thin_zones import Strokes, base_of, composed, first_strokes, rule_of
 
 MOST_VERSIONS = 100

@@ -91,7 +91,7 @@ class PageViews:
     def view(self, view: View) -> NDArray[np.uint32]:
         """A part at 1:1 by the job as it is now; with `delta` only the pixels that differ from the part before."""
         page = self.page
-        self._check(view)
+        self.check(view)
         most = max((abs(part) for shift in view.shifts or [] for part in shift), default=0)
         x0, y0 = max(0, view.left - most), max(0, view.top - most)
         width = min(page.width, view.left + view.width + most) - x0
@@ -119,7 +119,8 @@ class PageViews:
             return after.part(Part(0, *part))
         return [eight_bits(plane, page.maxval) for plane in page.live.trapped(text, *part)]
 
-    def _check(self, view: View) -> None:
+    def check(self, view: View) -> None:
+        """Raises BadRequest if a view is none of this page."""
         page = self.page
         if view.mode not in MODES:
             raise BadRequest(f"no picture {view.mode}")

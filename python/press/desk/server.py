@@ -8,12 +8,15 @@ from __future__ import annotations
 import asyncio
 import json
 import shutil
+import struct
 import time
 from collections.abc import AsyncIterator, Awaitable, Callable
 from contextlib import asynccontextmanager
 from pathlib import Path
 from typing import Any
 
+import numpy as np
+from numpy.typing import NDArray
 from starlette.applications import Starlette
 from starlette.background import BackgroundTask
 from starlette.concurrency import run_in_threadpool
@@ -66,6 +69,14 @@ def answers(handler: Handler) -> Handler:
         except (trapping.Refusal, PressError) as refused:
             return fault(422, str(refused))
     return guarded
+
+
+def with_pixels(head: bytes, pixels: NDArray[np.uint32]) -> Response:
+    """JSON and pixels as browsers take them: the length of the JSON in four bytes, the JSON, spaces up to a multiple of
+    four, and the pixels; without JSON the pixels alone."""
+    padded = head.ljust(-(-len(head) // 4) * 4)
+    body = (struct.pack("<I", len(padded)) + padded if head else b"") + pixels.tobytes()
+    return Response(body, 200, {"cache-control": "no-store"}, "application/octet-stream")
 
 
 async def json_body(request: Request) -> dict[str, Any]:
@@ -132,30 +143,34 @@ class Server:
 
     async def edits(self, request: Request) -> Response:
         """New edits of a page, made on a version of it."""
-        said = await json_body(request)
-        return await self._changed(request, lambda page: page.change(int(said["version"]), said["edits"]))
+        return await self._changed(request, lambda page, said: page.change(int(said["version"]), said["edits"]))
 
     async def undo(self, request: Request) -> Response:
         """The job before the last change."""
-        said = await json_body(request)
-        return await self._changed(request, lambda page: page.step(int(said["version"]), True))
+        return await self._changed(request, lambda page, said: page.step(int(said["version"]), True))
 
     async def redo(self, request: Request) -> Response:
         """The job after the last change that was undone."""
-        said = await json_body(request)
-        return await self._changed(request, lambda page: page.step(int(said["version"]), False))
+        return await self._changed(request, lambda page, said: page.step(int(said["version"]), False))
 
-    async def _changed(self, request: Request, change: Callable[[DeskPage], None]) -> Response:
-        key = request.path_params["page"]
+    async def _changed(self, request: Request, change: Callable[[DeskPage, dict[str, Any]], None]) -> Response:
+        """Changes a page. The answer is the page; and behind it, if the request has a view, what that shows then."""
+        said, key = await json_body(request), request.path_params["page"]
+        view = View.of_json(said["view"]) if said.get("view") else None
 
-        def work() -> dict[str, Any]:
+        def work() -> Response:
+            views = self.store.views(key)
+            if view:
+                views.check(view)
             try:
-                change(self.store.page(key))
+                change(views.page, said)
             except (KeyError, TypeError) as bad:
                 raise BadRequest(f"the request lacks {bad}") from bad
             self.store.page_changed(key)
-            return self.store.page_state(key)
-        return JSONResponse(await run_in_threadpool(work))
+            pixels = views.view(view) if view else None
+            state = JSONResponse(self.store.page_state(key))
+            return state if pixels is None else with_pixels(bytes(state.body), pixels)
+        return await run_in_threadpool(work)
 
     async def tile(self, request: Request) -> Response:
         """A tile of a page. Its address has the page's version, so browsers keep it for ever."""
@@ -172,8 +187,7 @@ class Server:
         """A part of a page at 1:1, as the browser's canvas takes it."""
         view = View.of_json(await json_body(request))
         views = self.store.views(request.path_params["page"])
-        pixels = await run_in_threadpool(views.view, view)
-        return Response(pixels.tobytes(), 200, {"cache-control": "no-store"}, "application/octet-stream")
+        return with_pixels(b"", await run_in_threadpool(views.view, view))
 
     async def why(self, request: Request) -> Response:
         """Why a pixel is trapped, or is not."""

@@ -14,7 +14,7 @@ from collections.abc import Iterator, Mapping, Sequence
 from dataclasses import dataclass, replace
 
 from press.folder import JOB, PageFolder, read_layout
-from press.job_language import SCALE, Job, Parameters, Subpath, read_job
+from press.job_language import SCALE, Job, Parameters, Subpath
 from press.layout import pictures_alone, pixels_of, points_of, stroke_rule, strokes_of
 from press.rects import Rect
 from press.thin import boxes_by_width
@@ -22,6 +22,7 @@ from press.zones import Composer, Wanted, Writer, owner_piece
 
 from .job_edits import WHOLE_PAGE, Edits, below_thin, thin_place
 from .job_sections import IMAGES, section_of
+from .reading import read_job
 from .record import options_for
 
 Places = Mapping[float, Sequence[Rect]]

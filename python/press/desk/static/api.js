@@ -27,6 +27,16 @@ export async function send(path, body, method = 'POST') {
 }
 
 /**
+ * The page in an answer, and the pixels behind it if there are any: the length of the JSON, the JSON, and the pixels.
+ * @param {Response} answer
+ */
+export async function pageAndPixels(answer) {
+  if (answer.headers.get('content-type') === 'application/json') return { page: await answer.json(), pixels: null };
+  const data = await answer.arrayBuffer(), length = new DataView(data).getUint32(0, true);
+  return { page: JSON.parse(new TextDecoder().decode(new Uint8Array(data, 4, length))), pixels: new Uint32Array(data, 4 + length) };
+}
+
+/**
  * Uploads a file, which becomes a job, or part of one.
  * @param {File} file
  * @param {Record<string, string>} [more]

@@ -1,6 +1,6 @@
 // SPDX-License-Identifier: Apache-2.0
 // The app: jobs and pages, the picture, edits with undo, and the keyboard.
-import { Conflict, get, listen, save, send } from './api.js';
+import { Conflict, get, listen, pageAndPixels, save, send } from './api.js';
 import { listCompared, showCompared } from './compare.js';
 import { Drawing, drawZones } from './drawing.js';
 import { showJobs } from './jobs.js';
@@ -137,11 +137,8 @@ async function sendEdits() {
   const edits = app.waiting;
   app.waiting = null;
   try {
-    const answer = await send(`/api/pages/${app.page.id}/edits`, { version: app.page.version, edits });
-    Object.assign(app.page, await answer.json());
+    await change('edits', { edits });
     say(`version ${app.page.version}`);
-    if (view.needsLive()) view.look();
-    showPage();
   } catch (fault) {
     if (fault instanceof Conflict) await conflict(edits);
     else { say(String(fault instanceof Error ? fault.message : fault), true); showPage(); }
@@ -149,6 +146,23 @@ async function sendEdits() {
     app.isSending = false;
     if (app.waiting) sendEdits();
   }
+}
+
+/**
+ * Changes the job. The answer has what is visible at 1:1 too, which is drawn before anything else.
+ * @param {string} how
+ * @param {any} body
+ */
+async function change(how, body) {
+  const changed = app.page, start = view.changedAt || performance.now(), asked = view.followsJob() && !view.busy ? await view.request() : null;
+  view.changedAt = 0;
+  const answer = await send(`/api/pages/${changed.id}/${how}`, { ...body, version: changed.version, ...(asked ? { view: asked } : {}) });
+  const { page, pixels } = await pageAndPixels(answer);
+  Object.assign(changed, page);
+  if (app.page !== changed) return;
+  app.chosenZone = Math.min(app.chosenZone, page.edits.zones.length - 1);
+  if (pixels && !view.busy && view.isStill(asked)) view.draw(asked, pixels, start); else if (view.needsLive()) view.look();
+  requestAnimationFrame(() => setTimeout(() => { if (app.page === changed) showPage(); }));
 }
 
 /**
@@ -167,11 +181,7 @@ async function conflict(edits) {
 async function step(which) {
   if (!app.page || !(which === 'undo' ? app.page.canUndo : app.page.canRedo)) return;
   try {
-    const answer = await send(`/api/pages/${app.page.id}/${which}`, { version: app.page.version });
-    Object.assign(app.page, await answer.json());
-    app.chosenZone = Math.min(app.chosenZone, app.page.edits.zones.length - 1);
-    if (view.needsLive()) view.look();
-    showPage();
+    await change(which, {});
   } catch (fault) { say(String(fault instanceof Error ? fault.message : fault), true); }
 }
 

@@ -31,6 +31,8 @@ export class PageView {
     this.busy = false;
     this.again = false;
     /** @type {{key: string, pixels: Uint32Array}} */ this.base = { key: '', pixels: new Uint32Array(0) };
+    /** The canvas of the live picture, its part of the page, and the pixels in which it differs from the picture before.
+     * @type {{canvas: HTMLCanvasElement, image: ImageData, part: string, key: string, changed: Uint32Array} | null} */ this.picture = null;
     /** @type {{total: number, bytes: number}[]} */ this.times = [];
     /** @type {any} */ this.live = null;
     this.map = L.map(element, { crs: CRS, minZoom: -8, maxZoom: CLOSEST, fadeAnimation: false, zoomAnimation: false, attributionControl: false,
@@ -130,6 +132,9 @@ export class PageView {
 
   hideLive() { this.live?.remove(); this.live = null; }
 
+  /** Whether a change of the job changes what is seen at 1:1. */
+  followsJob() { return this.isNear() && this.mode !== 'before'; }
+
   /** The picture before trapping of what is visible is fetched ahead, so that a change sends changed pixels alone. */
   prepare() {
     clearTimeout(this.idle);
@@ -159,34 +164,72 @@ export class PageView {
 
   async drawLive() {
     if (!this.needsLive()) { this.hideLive(); return; }
-    const start = this.changedAt || performance.now(), part = this.visible();
+    const start = this.changedAt || performance.now(), asked = await this.request();
     this.changedAt = 0;
-    if (!part.width || !part.height) return;
+    if (!asked) return;
+    const answer = await send(`/api/pages/${this.page.id}/view`, asked);
+    this.draw(asked, new Uint32Array(await answer.arrayBuffer()), start);
+  }
+
+  /** What the server is asked to draw of what is visible; null if nothing is. */
+  async request() {
+    const part = this.visible();
+    if (!part.width || !part.height) return null;
     const isDelta = this.mode === 'after' && !this.isShifted() && !this.soft;
     if (isDelta) await this.fetchBase();
-    const body = { ...part, mode: this.mode, inks: this.shownInks, delta: isDelta, soft: this.soft, other: this.other || {},
+    return { ...part, mode: this.mode, inks: this.shownInks, delta: isDelta, soft: this.soft, other: this.other || {},
       shifts: this.isShifted() ? this.shifts : null };
-    const answer = await send(`/api/pages/${this.page.id}/view`, body), data = await answer.arrayBuffer();
-    const pixels = isDelta ? this.over(this.base.pixels, new Uint32Array(data)) : new Uint32Array(data);
+  }
+
+  /**
+   * Whether what was asked for is still what is visible.
+   * @param {any} asked
+   */
+  isStill({ left, top, width, height }) { return JSON.stringify({ left, top, width, height }) === JSON.stringify(this.visible()); }
+
+  /**
+   * Draws what the server answered.
+   * @param {any} asked
+   * @param {Uint32Array} data
+   * @param {number} start when the change was made that is drawn
+   */
+  draw(asked, data, start) {
+    const { left, top, width, height } = asked, picture = this.pictureOf(asked), pixels = new Uint32Array(picture.image.data.buffer);
+    if (asked.delta) this.over(picture, pixels, data);
+    else { pixels.set(data); picture.key = ''; }
+    picture.canvas.getContext('2d')?.putImageData(picture.image, 0, 0);
+    if (this.live?.getElement() !== picture.canvas) {
+      this.hideLive();
+      this.live = L.svgOverlay(/** @type {any} */ (picture.canvas), [[top, left], [top + height, left + width]], { pane: 'live' }).addTo(this.map);
+    }
+    painted().then((/** @type {number} */ at) => this.times.push({ total: at - start, bytes: data.byteLength }));
+  }
+
+  /**
+   * The picture of a part: that of the last time if it is of the same part.
+   * @param {any} asked
+   */
+  pictureOf({ left, top, width, height }) {
+    const part = JSON.stringify([this.page.id, left, top, width, height]);
+    if (this.picture?.part === part) return this.picture;
     const canvas = document.createElement('canvas');
-    Object.assign(canvas, { width: part.width, height: part.height, className: 'live-picture' });
-    canvas.getContext('2d')?.putImageData(new ImageData(new Uint8ClampedArray(pixels.buffer), part.width, part.height), 0, 0);
-    const old = this.live;
-    this.live = L.svgOverlay(/** @type {any} */ (canvas), [[part.top, part.left], [part.top + part.height, part.left + part.width]],
-      { pane: 'live' }).addTo(this.map);
-    old?.remove();
-    this.times.push({ total: await painted() - start, bytes: data.byteLength });
+    Object.assign(canvas, { width, height, className: 'live-picture' });
+    this.picture = { canvas, image: new ImageData(width, height), part, key: '', changed: new Uint32Array(0) };
+    return this.picture;
   }
 
   /**
    * Changed pixels over the picture before: first all places, then all colours.
-   * @param {Uint32Array} base
+   * @param {any} picture
+   * @param {Uint32Array} pixels
    * @param {Uint32Array} changes
    */
-  over(base, changes) {
-    const pixels = base.slice(), count = changes.length / 2;
+  over(picture, pixels, changes) {
+    const { key, pixels: base } = this.base, count = changes.length / 2;
+    if (picture.key === key) for (const at of picture.changed) pixels[at] = base[at];
+    else pixels.set(base);
     for (let k = 0; k < count; k += 1) pixels[changes[k]] = changes[count + k];
-    return pixels;
+    Object.assign(picture, { key, changed: changes.subarray(0, count) });
   }
 }
 
