@@ -187,6 +187,30 @@ def test_changes_at_one_to_one_take_a_request_each_and_are_exact(desk):
         assert np.array_equal(pixels, colours_of(page)[top:top + height, left:left + width])
 
 
+def test_gaps_are_marked_by_a_tick_and_counted(desk):
+    """A plate is moved by its slider: green pixels, as many as the line below says; none once the tick is off."""
+    desk.open()
+    desk.close_up()
+    desk.click("[data-mode=before]")
+    desk.settle()
+    move = ("const slider = document.getElementById('shift-0-0'); slider.value = 0.36;"
+            "slider.dispatchEvent(new Event('input', {bubbles: true}))")
+    desk.browser.execute_script(move)
+    desk.wait("return !!document.querySelector('.live-picture') && !desk.view.busy")
+    green = [0, 0xE6, 0x3C]
+    assert not (desk.live_picture()[0] == green).all(axis=2).any()
+    assert not desk.browser.find_element(By.ID, "gaplegend").is_displayed()
+    desk.click("#gaps")
+    desk.wait("return document.getElementById('gapcount').textContent.includes('in view') && !desk.view.busy")
+    marked = int((desk.live_picture()[0] == green).all(axis=2).sum())
+    said = desk.browser.find_element(By.ID, "gapcount").text
+    assert marked > 40 and f"{marked} pixels in view" in said
+    desk.click("[data-mode=after]")
+    desk.wait("return document.getElementById('gapcount').textContent.includes(' 0 pixels in view')")
+    desk.browser.find_element(By.TAG_NAME, "body").send_keys("g")
+    desk.wait("return document.getElementById('gaplegend').hidden && !desk.view.busy")
+
+
 def test_a_zone_is_drawn_changed_undone_and_kept(desk, tmp_path):
     """By mouse; traps off inside; undo; and all of it after a restart of the server."""
     desk.open()

@@ -9,6 +9,7 @@ np = pytest.importorskip("numpy")
 image = pytest.importorskip("PIL.Image")
 
 from press.desk.colours import Inks, packed_light, png  # noqa: E402
+from press.desk.gap_marks import gaps_opened  # noqa: E402
 from press.desk.pyramid import Part, eight_bits, open_pyramid, plates_key, reduced_sides  # noqa: E402
 
 pytestmark = [pytest.mark.plain, pytest.mark.quick]
@@ -105,6 +106,32 @@ def test_changes_are_places_and_colours():
     picture = inks.paint(before, 3).ravel()
     picture[changes[:count]] = changes[count:]
     assert 0 < count < 900 and np.array_equal(picture.reshape(30, 30), inks.paint(after, 3))
+
+
+def near_minimum(total, row, column, radius):
+    """The least within a square."""
+    return total[max(0, row - radius):row + radius + 1, max(0, column - radius):column + radius + 1].min()
+
+
+@pytest.mark.parametrize("shifts", [[(1, 0), (0, 0), (-1, 2)], [(0, 0), (3, -2), (0, 0)], [(2, 2)] * 3])
+def test_gaps_are_those_of_the_definition(shifts):
+    """Pixel by pixel: what prints is lighter by more than the margin than everything near in register. Where a plate
+    has nothing to print from nothing is marked; and no gap opens if all plates move together."""
+    from press.gaps import MARGIN
+    densities, rng = (0.61, 0.76, 0.0), np.random.default_rng(3)
+    planes = [255 - 85 * np.kron(rng.integers(0, 4, (7, 20)), np.ones((11, 13), int)).astype("u1") for _ in densities]
+    height, width = planes[0].shape
+    total = sum((255.0 - plane) * density / 255 for plane, density in zip(planes, densities))
+    radius = max(abs(side) for shift in shifts for side in shift)
+    wanted = np.zeros((height, width), bool)
+    for row in range(height):
+        for column in range(width):
+            at = [(row - down, column - right) for right, down in shifts]
+            if all(0 <= y < height and 0 <= x < width for y, x in at):
+                there = sum((255.0 - plane[place]) * density / 255 for plane, density, place in zip(planes, densities, at))
+                wanted[row, column] = there < near_minimum(total, row, column, radius) - MARGIN - 1e-6
+    found = gaps_opened(planes, densities, shifts)
+    assert np.array_equal(found, wanted) and found.any() == (len(set(shifts)) > 1)
 
 
 def test_a_tile_is_a_png_with_the_same_pixels():

@@ -34,6 +34,7 @@ pytestmark = [pytest.mark.plain, pytest.mark.skipif(
 if LIBRARY:
     os.environ.setdefault("TRAP_LIBRARY", LIBRARY)
 
+from press.desk.colours import GAP  # noqa: E402
 from press.desk.guard import LOOPBACK, allowed_hosts  # noqa: E402
 from press.desk.page import DeskPage  # noqa: E402
 from press.desk import page as desk_page  # noqa: E402
@@ -254,6 +255,21 @@ def test_plates_out_of_register_are_drawn_so(client):
     moved = view(client, key, inks=1, left=0, top=0, width=WIDTH, height=HEIGHT, shifts=shifts)
     moved = moved.reshape(HEIGHT, WIDTH)
     assert np.array_equal(moved[:-2, 3:], still[2:, :-3]) and set(moved[:, 0]) == {0xFFFFFFFF}
+
+
+def test_gaps_are_marked_where_plates_out_of_register_open_them(client):
+    """Before trapping; traps close them. In register there is none, and no mark unless it is asked for."""
+    key, asked = page_of(client), {"left": 5, "top": 7, "width": 140, "height": 100, "inks": 65535, "gaps": True}
+    shifts = [[1, 0], [0, 0], [0, 0], [0, 0]]
+
+    def counted(**more):
+        answer = client.post(f"/api/pages/{key}/view", json={**asked, **more})
+        marked = int(np.count_nonzero(np.frombuffer(answer.content, "u4") == GAP))
+        return marked, answer.headers.get("x-gaps")
+    marked, said = counted(mode="before", shifts=shifts)
+    assert marked > 40 and said == str(marked)
+    assert counted(mode="after", shifts=shifts) == (0, "0")
+    assert counted(mode="before") == (0, None) == counted(mode="before", shifts=shifts, gaps=False)
 
 
 @pytest.mark.parametrize("bad", [{"width": 0}, {"left": 155}, {"width": 99_999}, {"mode": "odd"}, {"left": "x"},

@@ -25,6 +25,8 @@ Mask = NDArray[np.bool_]
 OPAQUE = np.uint32(0xFF000000)
 DIFFERENT = OPAQUE | np.uint32(0x5B00C2)
 """What differs, or is too much: a red that no process ink has."""
+GAP = OPAQUE | np.uint32(0x3CE600)
+"""A gap: a green that no inks over each other have."""
 TOO_MUCH = 300
 """The sum of tints in per cent above which the map of ink marks a place."""
 PALEST, PALE_RANGE = 205, 50

@@ -13,9 +13,10 @@ from typing import Any
 from press import folder as folders
 from press.files import whole_file
 from press.folder import PageFolder
-from press.job_language import KEYS, Job
+from press.job_language import KEYS, SCALE, Job
 from press.names import readable
 from press.picture import light_of
+from press.tables import is_seen
 
 from .colours import Inks, soft_proof
 from .edits_json import BadRequest, edits_of, settings_of
@@ -233,9 +234,15 @@ class DeskPage:
         ink = self.folder.inks[number]
         details = self.job.inks.get(ink.name)
         return {"name": ink.name, "title": readable(ink.colorant), "light": self.inks.lights[number],
-                "density": details.density / 10_000 if details else float(ink.density),
+                "density": details.density / SCALE if details else float(ink.density),
                 "kind": details.kind if details else ink.kind, "hasInk": ink.has_ink,
                 "coverage": [one.coverage[number] for one in (self.before, self.after)]}
+
+    def densities(self) -> list[float]:
+        """The density of each plate's ink as the job has it; 0 for a varnish, which nobody sees."""
+        inks = [(self.job.inks.get(ink.name), ink) for ink in self.folder.inks]
+        return [(now.density / SCALE if now else float(ink.density)) if is_seen(now.kind if now else ink.kind) else 0.0
+                for now, ink in inks]
 
     def zone_name(self, zone: int) -> str:
         """What a zone of the job is; 0 is what no zone covers."""

@@ -15,8 +15,9 @@ from press.names import readable
 from press.picture import shifted
 
 from . import why
-from .colours import png
+from .colours import GAP, png
 from .edits_json import BadRequest
+from .gap_marks import gaps_opened
 from .page import DeskPage
 from .pyramid import FIRST_LEVEL, Part, Pyramid, eight_bits
 
@@ -29,7 +30,8 @@ MODES = ("before", "after", "traps", "difference", "ink")
 @dataclass(frozen=True)
 class View:
     """What a browser asks to see at 1:1: a part of the page in pixels, a picture's kind, plates as bits, and how far
-    each plate is out of register, in pixels. `other` says by which other job it is trapped, if not by the newest."""
+    each plate is out of register, in pixels. `other` says by which other job it is trapped, if not by the newest.
+    `gaps` marks what prints lighter than all around it in register."""
 
     left: int
     top: int
@@ -40,6 +42,7 @@ class View:
     shifts: Sequence[tuple[int, int]] | None = None
     delta: bool = False
     soft: bool = False
+    gaps: bool = False
     other: Mapping[str, Any] = field(default_factory=dict)
 
     @classmethod
@@ -49,9 +52,18 @@ class View:
             left, top, width, height = (int(said[name]) for name in ("left", "top", "width", "height"))
             shifts = [(int(x), int(y)) for x, y in said["shifts"]] if said.get("shifts") else None
             return cls(left, top, width, height, str(said["mode"]), int(said["inks"]), shifts,
-                       bool(said.get("delta")), bool(said.get("soft")), dict(said.get("other") or {}))
+                       bool(said.get("delta")), bool(said.get("soft")), bool(said.get("gaps")),
+                       dict(said.get("other") or {}))
         except (KeyError, TypeError, ValueError) as bad:
             raise BadRequest(f"this is no view: {bad}") from bad
+
+
+@dataclass(frozen=True)
+class Drawn:
+    """The pixels of a view; and how many of them are gaps, None if these are not marked."""
+
+    pixels: NDArray[np.uint32]
+    gaps: int | None = None
 
 
 class PageViews:
@@ -88,7 +100,7 @@ class PageViews:
                 self._marks = (shown, found)
         return found
 
-    def view(self, view: View) -> NDArray[np.uint32]:
+    def view(self, view: View) -> Drawn:
         """A part at 1:1 by the job as it is now; with `delta` only the pixels that differ from the part before."""
         page = self.page
         self.check(view)
@@ -98,16 +110,29 @@ class PageViews:
         height = min(page.height, view.top + view.height + most) - y0
         before = page.before.part(Part(0, x0, y0, width, height))
         after = before if view.mode == "before" else self._trapped(view.other, (x0, y0, width, height))
+        gaps = None
         if most and view.shifts:
             frame = view.left - x0, view.top - y0, view.width, view.height
+            if view.gaps:
+                gaps = gaps_opened(after, page.densities(), view.shifts)[frame[1]:, frame[0]:][:frame[3], :frame[2]]
             before = [shifted(plane, shift, frame) for plane, shift in zip(before, view.shifts)]
             after = [shifted(plane, shift, frame) for plane, shift in zip(after, view.shifts)]
         if view.delta:
-            return page.inks.changes(before, after, view.inks)
+            return Drawn(page.inks.changes(before, after, view.inks))
+        pixels = self._painted(view, before, after)
+        if gaps is None:
+            return Drawn(pixels)
+        pixels[gaps] = GAP
+        return Drawn(pixels, int(np.count_nonzero(gaps)))
+
+    def _painted(self, view: View, before: Sequence[NDArray[np.uint8]],
+                 after: Sequence[NDArray[np.uint8]]) -> NDArray[np.uint32]:
+        """The picture of a part."""
+        inks = self.page.inks
         if view.mode in ("traps", "difference"):
             changed = [new != old for old, new in zip(before, after)]
-            return page.inks.paint_traps(before, changed, view.inks, view.mode == "difference")
-        return page.inks.picture(view.mode, after, view.inks, view.soft)
+            return inks.paint_traps(before, changed, view.inks, view.mode == "difference")
+        return inks.picture(view.mode, after, view.inks, view.soft)
 
     def _trapped(self, other: Mapping[str, Any], part: tuple[int, int, int, int]) -> list[NDArray[np.uint8]]:
         """A part of the trapped plates as eight bits: of the page if that is done, else trapped now."""

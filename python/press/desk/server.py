@@ -15,8 +15,6 @@ from contextlib import asynccontextmanager
 from pathlib import Path
 from typing import Any
 
-import numpy as np
-from numpy.typing import NDArray
 from starlette.applications import Starlette
 from starlette.background import BackgroundTask
 from starlette.concurrency import run_in_threadpool
@@ -33,7 +31,7 @@ from press.errors import PressError
 from .guard import Guard
 from .edits_json import BadRequest
 from .page import DeskPage, VersionConflict
-from .page_views import MODES, View
+from .page_views import MODES, Drawn, View
 from .job_queue import TooMuch
 from .outputs import NoSuchOutput
 from .store import NoSuchThing, Store
@@ -71,12 +69,13 @@ def answers(handler: Handler) -> Handler:
     return guarded
 
 
-def with_pixels(head: bytes, pixels: NDArray[np.uint32]) -> Response:
+def with_pixels(head: bytes, drawn: Drawn) -> Response:
     """JSON and pixels as browsers take them: the length of the JSON in four bytes, the JSON, spaces up to a multiple of
-    four, and the pixels; without JSON the pixels alone."""
+    four, and the pixels; without JSON the pixels alone. A header has the number of gaps."""
     padded = head.ljust(-(-len(head) // 4) * 4)
-    body = (struct.pack("<I", len(padded)) + padded if head else b"") + pixels.tobytes()
-    return Response(body, 200, {"cache-control": "no-store"}, "application/octet-stream")
+    body = (struct.pack("<I", len(padded)) + padded if head else b"") + drawn.pixels.tobytes()
+    headers = {"cache-control": "no-store", **({} if drawn.gaps is None else {"x-gaps": str(drawn.gaps)})}
+    return Response(body, 200, headers, "application/octet-stream")
 
 
 async def json_body(request: Request) -> dict[str, Any]:
@@ -167,9 +166,8 @@ class Server:
             except (KeyError, TypeError) as bad:
                 raise BadRequest(f"the request lacks {bad}") from bad
             self.store.page_changed(key)
-            pixels = views.view(view) if view else None
             state = JSONResponse(self.store.page_state(key))
-            return state if pixels is None else with_pixels(bytes(state.body), pixels)
+            return with_pixels(bytes(state.body), views.view(view)) if view else state
         return await run_in_threadpool(work)
 
     async def tile(self, request: Request) -> Response:

@@ -31,9 +31,18 @@ export async function send(path, body, method = 'POST') {
  * @param {Response} answer
  */
 export async function pageAndPixels(answer) {
-  if (answer.headers.get('content-type') === 'application/json') return { page: await answer.json(), pixels: null };
+  if (answer.headers.get('content-type') === 'application/json') return { page: await answer.json(), pixels: null, gaps: null };
   const data = await answer.arrayBuffer(), length = new DataView(data).getUint32(0, true);
-  return { page: JSON.parse(new TextDecoder().decode(new Uint8Array(data, 4, length))), pixels: new Uint32Array(data, 4 + length) };
+  return { page: JSON.parse(new TextDecoder().decode(new Uint8Array(data, 4, length))), pixels: new Uint32Array(data, 4 + length), gaps: gapsIn(answer) };
+}
+
+/**
+ * How many pixels of a view are gaps; null if they are not marked.
+ * @param {Response} answer
+ */
+export function gapsIn(answer) {
+  const said = answer.headers.get('x-gaps');
+  return said === null ? null : Number(said);
 }
 
 /**

@@ -29,7 +29,8 @@ export function say(text, isAlert = false) {
   byId('status').classList.toggle('alert', isAlert);
 }
 
-const view = new PageView(byId('map'), { click: (x, y) => { if (!drawing.tool) ask(x, y); }, fault: (text) => say(text, true) });
+const view = new PageView(byId('map'), { click: (x, y) => { if (!drawing.tool) ask(x, y); }, fault: (text) => say(text, true),
+  gaps: showGaps });
 const other = new PageView(byId('other'));
 const zoneLayer = L.layerGroup().addTo(view.map), markLayer = L.layerGroup().addTo(view.map);
 const drawing = new Drawing(view, (points) => edit((edits) => {
@@ -104,6 +105,29 @@ function setShift(ink, axis, pixels) {
   if (!byId('other').hidden && other.page.id === view.page.id) { other.shifts = view.shifts; if (other.needsLive()) other.look(); else other.hideLive(); }
 }
 
+/**
+ * What the mark of a gap means, and how many pixels have it.
+ * @param {number | null} count
+ */
+function showGaps(count) {
+  const text = count === null ? 'Gaps are marked at 1:1 and closer, once a plate is moved.' : `Gap: prints lighter than all around it in register. ${count} pixels in view.`;
+  byId('gaplegend').hidden = !isTicked('gaps');
+  byId('gapcount').textContent = text;
+}
+
+/** @param {boolean} isOn */
+function markGaps(isOn) {
+  /** @type {HTMLInputElement} */ (byId('gaps')).checked = isOn;
+  for (const one of [view, other]) {
+    one.marksGaps = isOn;
+    if (one.page && one.isShifted() && one.needsLive() && !one.element.hidden) one.look();
+  }
+  showGaps(null);
+}
+
+/** @param {string} id */
+const isTicked = (id) => /** @type {HTMLInputElement} */ (byId(id)).checked;
+
 function straighten() {
   app.shifts = null;
   if (!app.page) return;
@@ -157,11 +181,11 @@ async function change(how, body) {
   const changed = app.page, start = view.changedAt || performance.now(), asked = view.followsJob() && !view.busy ? await view.request() : null;
   view.changedAt = 0;
   const answer = await send(`/api/pages/${changed.id}/${how}`, { ...body, version: changed.version, ...(asked ? { view: asked } : {}) });
-  const { page, pixels } = await pageAndPixels(answer);
+  const { page, pixels, gaps } = await pageAndPixels(answer);
   Object.assign(changed, page);
   if (app.page !== changed) return;
   app.chosenZone = Math.min(app.chosenZone, page.edits.zones.length - 1);
-  if (pixels && !view.busy && view.isStill(asked)) view.draw(asked, pixels, start); else if (view.needsLive()) view.look();
+  if (pixels && !view.busy && view.isStill(asked)) view.draw(asked, pixels, start, gaps); else if (view.needsLive()) view.look();
   requestAnimationFrame(() => setTimeout(() => { if (app.page === changed) showPage(); }));
 }
 
@@ -323,6 +347,7 @@ byId('compare').onclick = toggleCompare;
 byId('compared').onchange = () => compareAgain();
 byId('soft').onchange = toggleSoft;
 byId('straight').onclick = straighten;
+byId('gaps').onchange = () => markGaps(isTicked('gaps'));
 byId('undo').onclick = () => step('undo');
 byId('redo').onclick = () => step('redo');
 byId('rectangle').onclick = () => drawing.start('rectangle');
@@ -335,7 +360,7 @@ const KEYS = [
   ['1', 'picture before trapping', () => setMode('before')], ['2', 'picture after trapping', () => setMode('after')],
   ['3', "traps in their inks' colours", () => setMode('traps')], ['4', 'all that trapping changed', () => setMode('difference')],
   ['5', 'the sum of all inks', () => setMode('ink')], ['s', 'soft proof, if a profile is set', toggleSoft], ['0', 'whole page', () => zooms.fit()], ['9', '1:1', () => zooms.one()],
-  ['c', 'compare side by side', toggleCompare], ['i', 'all plates in register', straighten],
+  ['c', 'compare side by side', toggleCompare], ['i', 'all plates in register', straighten], ['g', 'mark gaps', () => markGaps(!isTicked('gaps'))],
   ['n', 'next page', () => turn(1)], ['b', 'page before', () => turn(-1)], ['r', 'draw a rectangular zone', () => drawing.start('rectangle')],
   ['p', 'draw a polygonal zone', () => drawing.start('polygon')], ['u', 'undo', () => step('undo')], ['U', 'redo', () => step('redo')],
   ['?', 'these keys', () => showKeys()],

@@ -1,7 +1,7 @@
 // SPDX-License-Identifier: Apache-2.0
 // The page as a Leaflet map: one unit is one pixel of the plates, y grows downwards, and zoom 0 is 1:1.
 import * as L from '/leaflet/leaflet.esm.min.js';
-import { send } from './api.js';
+import { gapsIn, send } from './api.js';
 
 const TILE = 512;
 const CRS = L.extend({}, L.CRS.Simple, { transformation: new L.Transformation(1, 0, 1, 0) });
@@ -16,7 +16,7 @@ const painted = () => new Promise((done) => {
 export class PageView {
   /**
    * @param {HTMLElement} element
-   * @param {{click?: (x: number, y: number) => void, fault?: (text: string) => void}} on
+   * @param {{click?: (x: number, y: number) => void, fault?: (text: string) => void, gaps?: (count: number | null) => void}} on
    */
   constructor(element, on = {}) {
     this.element = element;
@@ -25,6 +25,7 @@ export class PageView {
     this.mode = 'after';
     this.shownInks = 0xffff;
     this.soft = false;
+    this.marksGaps = false;
     /** @type {any} */ this.other = null;
     /** @type {number[][]} */ this.shifts = [];
     /** @type {any} */ this.edits = null;
@@ -130,7 +131,11 @@ export class PageView {
     if (this.needsLive()) this.look(); else { this.hideLive(); this.prepare(); }
   }
 
-  hideLive() { this.live?.remove(); this.live = null; }
+  hideLive() {
+    this.live?.remove();
+    this.live = null;
+    this.on.gaps?.(null);
+  }
 
   /** Whether a change of the job changes what is seen at 1:1. */
   followsJob() { return this.isNear() && this.mode !== 'before'; }
@@ -168,7 +173,7 @@ export class PageView {
     this.changedAt = 0;
     if (!asked) return;
     const answer = await send(`/api/pages/${this.page.id}/view`, asked);
-    this.draw(asked, new Uint32Array(await answer.arrayBuffer()), start);
+    this.draw(asked, new Uint32Array(await answer.arrayBuffer()), start, gapsIn(answer));
   }
 
   /** What the server is asked to draw of what is visible; null if nothing is. */
@@ -178,7 +183,7 @@ export class PageView {
     const isDelta = this.mode === 'after' && !this.isShifted() && !this.soft;
     if (isDelta) await this.fetchBase();
     return { ...part, mode: this.mode, inks: this.shownInks, delta: isDelta, soft: this.soft, other: this.other || {},
-      shifts: this.isShifted() ? this.shifts : null };
+      ...(this.isShifted() ? { shifts: this.shifts, gaps: this.marksGaps } : {}) };
   }
 
   /**
@@ -192,8 +197,9 @@ export class PageView {
    * @param {any} asked
    * @param {Uint32Array} data
    * @param {number} start when the change was made that is drawn
+   * @param {number | null} gaps the pixels that are marked as gaps
    */
-  draw(asked, data, start) {
+  draw(asked, data, start, gaps) {
     const { left, top, width, height } = asked, picture = this.pictureOf(asked), pixels = new Uint32Array(picture.image.data.buffer);
     if (asked.delta) this.over(picture, pixels, data);
     else { pixels.set(data); picture.key = ''; }
@@ -202,6 +208,7 @@ export class PageView {
       this.hideLive();
       this.live = L.svgOverlay(/** @type {any} */ (picture.canvas), [[top, left], [top + height, left + width]], { pane: 'live' }).addTo(this.map);
     }
+    this.on.gaps?.(gaps);
     painted().then((/** @type {number} */ at) => this.times.push({ total: at - start, bytes: data.byteLength }));
   }
 
