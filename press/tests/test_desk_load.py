@@ -25,6 +25,7 @@ from press import engine, tools  # noqa: E402
 from press.errors import PressError  # noqa: E402
 from press.folder import PageFolder, PageSource, write_table  # noqa: E402
 from press.inks import Ink  # noqa: E402
+from press.job import write_job  # noqa: E402
 from press.job_language import JobSyntaxError, read_job  # noqa: E402
 from press.plates import write_pgm  # noqa: E402
 from press.settings import Settings  # noqa: E402
@@ -132,6 +133,49 @@ def test_eight_clients_for_two_minutes_take_no_more_memory(served):
     faults, count, early, late = load(served, LONG)
     print(f"{count} requests; {early:.0f} MB after a minute, {late:.0f} MB after two; load {os.getloadavg()[0]:.1f}")
     assert faults == [] and late < early * 1.15 + 10
+
+
+def test_memory_does_not_grow_with_the_threads_that_draw(tmp_path):
+    """Views of three million pixels, four at once and again and again, and then a change: once the page is trapped the
+    server has given back what they took."""
+    make_large_page(tmp_path / "jobs" / "large" / "page-001")
+    found = Served(tmp_path / "jobs")
+    try:
+        key = json.loads(found.ask("/api/jobs")[1])[0]["pages"][0]["id"]
+        asked = {"left": 0, "top": 0, "width": 2000, "height": 1500, "mode": "after", "inks": 15}
+
+        def draw():
+            for _ in range(4):
+                assert found.ask(f"/api/pages/{key}/view", asked)[0] == 200
+        for _ in range(3):
+            threads = [threading.Thread(target=draw) for _ in range(4)]
+            for thread in threads:
+                thread.start()
+            for thread in threads:
+                thread.join()
+        page = json.loads(found.ask(f"/api/pages/{key}")[1])
+        edits = {**page["edits"], "settings": {"TrapWidth": 4_000}}
+        assert found.ask(f"/api/pages/{key}/edits", {"version": page["version"], "edits": edits})[0] == 200
+        end = time.monotonic() + SECONDS
+        while found.memory() > 120 and time.monotonic() < end:
+            time.sleep(0.2)
+        assert found.memory() <= 120
+    finally:
+        found.process.kill()
+        found.process.communicate()
+
+
+def make_large_page(folder):
+    """A page of 2,000 by 1,500 pixels in four inks, a photograph of noise."""
+    folder.mkdir(parents=True)
+    inks = tuple(Ink(name, name.encode(), name.encode(), "0.6") for name in ("Cyan", "Magenta", "Yellow", "Black"))
+    for number, ink in enumerate(inks):
+        noise = np.random.default_rng(number).integers(0, 256, (1500, 2000), dtype="u1")
+        write_pgm(str(folder / f"{ink.name}.pgm"), noise, 255)
+    source = PageSource(b"large.pdf", 1, 300)
+    (folder / "page.job").write_bytes(write_job(source, inks, []).text)
+    write_table(str(folder), source, inks)
+    engine.trap(PageFolder.read(str(folder)), Settings())
 
 
 # Hostile files

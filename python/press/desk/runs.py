@@ -21,6 +21,7 @@ from press import engine, tools
 from press.errors import PressError, Status
 from press.settings import Settings
 
+from .memory import give_back
 from .page import DeskPage
 from .thin_zones import Strokes, by_width, rule_of
 
@@ -105,6 +106,7 @@ class PageRun:
             SLOTS.release()
             with self.wake:
                 self.child = None
+            give_back()
 
     def _is_wanted(self, asked: int) -> bool:
         return self.is_open and asked == self.wanted

@@ -22,6 +22,7 @@ from press.files import need_folder, table_lines
 from press.picture import need_profile
 
 from .guard import LOOPBACK, allowed_hosts
+from .memory import share_heaps
 from .server import LEAFLET, application
 from .store import Store
 
@@ -147,6 +148,7 @@ def serve(folder: str, where: Where, how: How, say: Callable[[str], None]) -> No
     if how.profile:
         need_profile(how.profile)
     find_library()
+    share_heaps()
     token = where.token()
     address = f"http://{bracketed(where.host)}:{where.port}/" + (f"?token={token}" if token else "")
     with bound_socket(where) as listening:
