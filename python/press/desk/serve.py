@@ -115,7 +115,7 @@ class DeskServer(uvicorn.Server):  # type: ignore[misc]
 def bound_socket(where: Where) -> socket.socket:
     """A socket that is bound, so that a port in use is a refusal with a line."""
     family = socket.AF_INET6 if ":" in where.host else socket.AF_INET
-    # asyncio switches off Nagle's algorithm for sockets that name their protocol alone; with it answers take 40 ms more.
+    # asyncio switches Nagle's algorithm off only if a socket names its protocol; with it an answer takes 40 ms more.
     made = socket.socket(family, socket.SOCK_STREAM, socket.IPPROTO_TCP)
     made.setsockopt(socket.SOL_SOCKET, socket.SO_REUSEADDR, 1)
     try:
