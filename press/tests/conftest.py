@@ -46,7 +46,7 @@ def program_path(name: str) -> Path | None:
 def fixture_programs(tmp_path_factory: pytest.TempPathFactory) -> Path:
     """A folder with the programs of the press room."""
     folder = tmp_path_factory.mktemp("programs")
-    for name in ("trap", "trapsheet", "presscheck"):
+    for name in ("trap", "trapsheet", "presscheck", "trapkeep"):
         place = program_path(name)
         if place:
             (folder / name).symlink_to(place)

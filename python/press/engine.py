@@ -3,29 +3,26 @@
 report."""
 import contextlib
 import json
-import math
 import os
-import re
-import subprocess
-from collections.abc import Callable, Sequence
+from collections.abc import Sequence
 from dataclasses import dataclass
 from typing import Any
 
-from . import tools
+from . import keepaway, programs, tools
 from .errors import PressError, Status
-from .files import folder_beside, link_or_copy, named, need_room, put_folder, scratch_folder
+from .files import folder_beside, link_or_copy, named, put_folder, scratch_folder
 from .folder import CHECK, JOB, JSON, REPORT, TRAPPED, PageFolder, read_layout
 from .inks import Ink
-from .job import Job, file_place, job_place
+from .job import Job, file_place
 from .names import readable
 from .plates import LONGEST_SHEET_SIDE, LONGEST_SIDE, MOST_SAMPLES, fits_page
+from .programs import AT, most_dpi, run_on
 from .settings import Settings
 
 USUAL_THREADS = 4
 # The program that traps pages; and the one that --trap-page asks for.
 PROGRAM, PAGE_PROGRAM = "trapsheet", "trap"
-AT = re.compile(r"job: .* at (\d+)")
-Started = Callable[["subprocess.Popen[bytes]"], None]
+Started = programs.Started
 
 
 @dataclass(frozen=True)
@@ -96,14 +93,6 @@ def judge(job: Job, names: Sequence[str]) -> None:
 
 # A page
 
-def most_dpi(size: tuple[float, float], inked: int, longest: int, most: int | None) -> int:
-    """The greatest resolution at which a page of this size in points and so many inks fits."""
-    width, height = size
-    by_side = longest * 72 / max(width, height)
-    by_samples = math.sqrt(most / inked / width / height) * 72 if most else by_side
-    return max(1, int(min(by_side, by_samples)))
-
-
 def trapping_program(settings: Settings) -> str:
     """The name of the program that traps pages. Refuses if it is not there."""
     name = PAGE_PROGRAM if settings.by_page_program else PROGRAM
@@ -132,36 +121,13 @@ def words_of(name: str, page: PageFolder, out: str, settings: Settings) -> list[
     if name == PAGE_PROGRAM:
         for option, value in (("--workers", settings.workers), ("--band", settings.band)):
             words += [option, str(value)] if value is not None else []
-    return [*words, JOB, os.path.join(out, REPORT),
-            *(f"{ink.name}:{ink.name}.pgm:{out}/{ink.name}.pgm" for ink in page.inked)]
+    return [*words, JOB, os.path.join(out, REPORT), *(f"{word}:{out}/{ink.name}.pgm" for ink, word in
+                                                      zip(page.inked, plate_words(page, out)))]
 
 
-def refusal(page: PageFolder, name: str, done: "subprocess.CompletedProcess[bytes]") -> PressError:
-    """Why a program refused the page: its own line, and the place that its numbers stand for."""
-    line = tools.last_line(done)
-    what = f'{name} ended with {done.returncode}: "{line}"'
-    place, at, plate = page.path, AT.fullmatch(line), re.search(r"plate (\d+)", line)
-    if at:
-        with open(page.file(JOB), "rb") as file:
-            place = f"{page.file(JOB)}: {job_place(file.read(), int(at.group(1)))}"
-    elif plate and int(plate.group(1)) < len(page.inked):
-        # The plate that could not be written is the trapped one.
-        place = page.plate(page.inked[int(plate.group(1))], line.startswith("write"))
-    return PressError(Status.PROGRAM, what, place)
-
-
-def run_on(page: PageFolder, name: str, words: list[str], started: Started | None = None) -> bytes:
-    """Runs a program in a page's folder, and answers what it printed. `started` gets the child, to stop it."""
-    path = tools.program(name)
-    with tools.running([path, *words], cwd=page.path, env=tools.environment(path)) as child:
-        if started:
-            started(child)
-        printed, complained = child.communicate()
-    done = subprocess.CompletedProcess([path, *words], child.returncode, printed, complained)
-    if done.returncode != 0:
-        need_room(page.path, f"{name} wrote")
-        raise refusal(page, name, done)
-    return done.stdout
+def plate_words(page: PageFolder, out: str) -> list[str]:
+    """For each plate with ink its ink's name and the plate that trapping begins from, as arguments have them."""
+    return [f"{ink.name}:{os.path.relpath(keepaway.begun_plate(page, ink, out), page.path)}" for ink in page.inked]
 
 
 def trap(page: PageFolder, settings: Settings, started: Started | None = None) -> Trapped:
@@ -174,17 +140,21 @@ def trap(page: PageFolder, settings: Settings, started: Started | None = None) -
         tools.program("presscheck")
     with folder_beside(page.path, inside=True) as made:
         out = os.path.basename(made)
-        run_on(page, name, words_of(name, page, out, settings), started)
+        keeping = keepaway.Keepaway(page, settings, out, started)
+        keeping.under_black()
+        run_on(page, name, words_of(name, page, out, settings), page.inked, started)
+        keeping.under_colours()
         warnings = check(page, out, settings.check) if settings.check is not None else ()
         with open(os.path.join(made, REPORT), encoding="utf-8") as file:
             report = Report.of(file.read())
-        write_json(page, report, made)
+        write_json(page, report, made, keeping.done)
         for ink in page.inks:
             if ink not in page.inked:
                 # No trap can come of a plate without ink, and it stays as it is.
                 link_or_copy(page.plate(ink), os.path.join(made, ink.name + ".pgm"))
         put_folder(made, page.file(TRAPPED))
-    return Trapped(report, warnings)
+    keepaway.write_down(page, keeping.done)
+    return Trapped(report, (*keeping.done.warnings, *warnings))
 
 
 def check(page: PageFolder, out: str, radius: int) -> tuple[str, ...]:
@@ -195,7 +165,7 @@ def check(page: PageFolder, out: str, radius: int) -> tuple[str, ...]:
         return (f"{readable(page.source.pdf)}: page {page.source.page}: presscheck takes no page of this size: not "
                 f"checked: {width} by {height} samples in {inked} plates with ink, and it takes {MOST_SAMPLES} samples "
                 f"and {LONGEST_SIDE} a side (at most {min(fits, dpi)} pixels per inch would fit)",)
-    printed = run_on(page, "presscheck", [str(radius), JOB, *(f"{ink.name}:{ink.name}.pgm" for ink in page.inked)])
+    printed = run_on(page, "presscheck", [str(radius), JOB, *plate_words(page, out)], page.inked)
     with named(page.file(TRAPPED, CHECK)), open(page.file(out, CHECK), "wb") as file:
         file.write(printed)
     return ()
@@ -207,13 +177,14 @@ def json_of(ink: Ink, report: Report) -> dict[str, Any]:
             "role": ink.role, "has_ink": ink.has_ink, "changed": report.plates.get(ink.name, 0)}
 
 
-def write_json(page: PageFolder, report: Report, made: str) -> None:
-    """The report as JSON, with what is known of the inks, and what presscheck counted."""
+def write_json(page: PageFolder, report: Report, made: str, kept: keepaway.Done) -> None:
+    """The report as JSON, with what is known of the inks, what was drawn back, and what presscheck counted."""
     head, source = page.head, page.source
     text: dict[str, Any] = {
         "source": readable(source.pdf), "page": source.page, "resolution": source.resolution, "width": head.width,
         "height": head.height, "maxval": head.maxval, "edges": report.edges, "zones": list(report.zones),
-        "inks": [json_of(ink, report) for ink in page.inks], "samples_changed": report.changed}
+        "inks": [json_of(ink, report) for ink in page.inks], "samples_changed": report.changed,
+        keepaway.KEY: kept.as_data()}
     with contextlib.suppress(FileNotFoundError), open(os.path.join(made, CHECK), encoding="utf-8") as file:
         counted = dict(line.split() for line in file if len(line.split()) == 2)
         text["check"] = {key: int(counted[key]) for key in ("radius", "before", "after") if key in counted}

@@ -5,7 +5,7 @@ from collections.abc import Iterator, Sequence
 from dataclasses import dataclass, replace
 from typing import Any
 
-from . import job, precedence
+from . import job, keepaway, precedence
 from .content import coverage_of, intent_profile
 from .errors import PressError, UsageError
 from .files import named, size_text
@@ -140,7 +140,8 @@ def record_of(page: Page, settings: Settings, made: PageFolder) -> dict[str, Any
              "role": ink.role, "blank": not ink.has_ink} for ink in made.inks]
     return {"state": DONE, "box": {"name": settings.box, "points": points}, "resolution": settings.dpi,
             "width": made.head.width, "height": made.head.height, "inks": inks,
-            "digests": {"job": digest_of(made.file(JOB)), "table": digest_of(made.file(TABLE))}}
+            "digests": {"job": digest_of(made.file(JOB)), "table": digest_of(made.file(TABLE))},
+            **keepaway.asked(settings)}
 
 
 def room_line(size: int, free: int) -> str:

@@ -10,7 +10,7 @@ from dataclasses import asdict, dataclass, replace
 
 import numpy
 
-from . import content, engine, files, images, job, owner_files, precedence
+from . import content, engine, files, images, job, owner_files, precedence, programs
 from .errors import PressError, Status
 from .fields import OF_FIELDS, fields_without_appearance
 from .files import BYTE_ORDER_MARK, bytes_of, free_room, scratch_folder, size_text
@@ -171,7 +171,7 @@ def size_finding(info: PageInfo, settings: Settings, page: int, inked: int) -> F
     """That a page of so many plates with ink is more than can be trapped, and the resolution that fits."""
     width, height = info.samples(settings.box, settings.dpi)
     longest, most = (LONGEST_SIDE, MOST_SAMPLES) if settings.by_page_program else (LONGEST_SHEET_SIDE, None)
-    most_dpi = engine.most_dpi(info.size(settings.box), inked, longest, most)
+    most_dpi = programs.most_dpi(info.size(settings.box), inked, longest, most)
     fits = f"at most {most_dpi} pixels per inch fit here"
     if max(width, height) > longest:
         return Finding("size", FAULT, page, f"{width} by {height} samples, and a side has at most {longest} ({fits})",

@@ -26,7 +26,13 @@ def actions() -> dict[str, argparse.Action]:
     add_made_options(made)
     add_page_choice(made)
     # pylint: disable-next=protected-access
-    return {one.option_strings[-1][2:]: one for one in made._actions if one.dest not in OF_A_RUN}
+    return {one.option_strings[-1][2:]: one for one in made._actions
+            if one.dest not in OF_A_RUN and not is_short_form(one)}
+
+
+def is_short_form(action: argparse.Action) -> bool:
+    """Whether an option stands for another one with a value: --no-keepaway for --keepaway off."""
+    return isinstance(action.const, str)
 
 
 def options_from(settings: Settings, out: str) -> dict[str, Any]:

@@ -18,8 +18,9 @@ COMPRESSIONS = ("none", "packbits", "lzw", "deflate")
 BOXES = ("media", "crop", "bleed", "trim", "art")
 POINTS = {"mm": 72 / 25.4, "um": 72 / 25_400, "µm": 72 / 25_400, "pt": 1.0, "in": 72.0}
 MOST_WIDTH, USUAL_WIDTH = 100, 0.25
-# A trap reaches less than so many pixels, times BlackWidth at black (docs/JOBS.md).
-MOST_REACH = 128.5
+# A trap reaches less than so many pixels, times BlackWidth at black (docs/JOBS.md); keepaway at most so many.
+MOST_REACH, MOST_KEEPAWAY = 128.5, 128
+KEEPAWAY = "keepaway"
 MOST_PAGE, MOST_SECONDS, MOST_JOBS = 999_999, 86_400, 1024
 PRESETS = os.path.join(PRESS, "presets")
 
@@ -56,14 +57,19 @@ def page_numbers(texts: list[str] | None) -> list[int]:
     return sorted(pages)
 
 
-def width_of(text: str, what: str) -> float:
-    """A width in points, from a number and its unit."""
+def width_of(text: str, what: str, or_else: str = "") -> float:
+    """A width in points, from a number and its unit. `or_else` names another word that the caller takes."""
     found = re.fullmatch(r"(\d{1,6}(?:\.\d*)?|\.\d+)\s*(mm|um|µm|pt|in)", text)
     points = float(found.group(1)) * POINTS[found.group(2)] if found else 0
     if not 0.0001 <= points <= MOST_WIDTH:
-        raise UsageError(f"{what} is a width with its unit, 0.1mm, 100um, 0.25pt or 0.004in, to 100pt, and not "
-                         f"'{text}'")
+        raise UsageError(f"{what} is a width with its unit, 0.1mm, 100um, 0.25pt or 0.004in, to 100pt{or_else}, and "
+                         f"not '{text}'")
     return points
+
+
+def keepaway_of(text: str, what: str) -> float:
+    """How far inks are drawn back, in points: a width, or 0 for "off"."""
+    return 0.0 if text == "off" else width_of(text, what, ', or "off"')
 
 
 def factor_of(text: str, what: str) -> float:
@@ -112,6 +118,7 @@ PARAMETERS = {
     "slide": Parameter("SlidingTrapLimit", share_of,
                        "from which ratio of densities on a trap lies on both sides of the edge"),
     "scale": Parameter("TrapColorScaling", share_of, "how much of the added ink a trap keeps"),
+    KEEPAWAY: Parameter("", keepaway_of),
 }
 
 
@@ -247,6 +254,8 @@ class Settings:
             need_press_profile(settings.icc)
         if not given.get("tiff"):
             need_reach(settings)
+            if "dpi" in given:
+                need_keepaway_reach(settings.parameters.get(KEEPAWAY), settings.dpi)
         return settings
 
     @property
@@ -271,6 +280,14 @@ def need_reach(settings: Settings) -> None:
     at_black = f" times {factor:g} at black" if factor > 1 else ""
     raise UsageError(f"{value.source if value else 'TrapWidth'}: a trap width of {points:.4g}pt{at_black} is too wide "
                      f"at {settings.dpi} pixels per inch: at most {most:g}pt ({most * 25.4 / 72:.3g}mm) fits")
+
+
+def need_keepaway_reach(value: Value | None, dpi: int) -> None:
+    """Refuses a width of keepaway that does not fit the resolution, with the largest that does."""
+    if value and value.number * dpi / 72 > MOST_KEEPAWAY:
+        most = math.floor(MOST_KEEPAWAY * 72 / dpi * 1000) / 1000
+        raise UsageError(f"{value.source}: inks cannot be drawn back by {value.number:.4g}pt at {dpi} pixels per inch: "
+                         f"at most {most:g}pt ({most * 25.4 / 72:.3g}mm) fits")
 
 
 # Options
@@ -399,6 +416,11 @@ def add_engine_options(parser: argparse.ArgumentParser) -> None:
              'for each sample, for pages of at most 160,000,000 samples')
     add("--band", metavar="B", type=whole("--band", 1, 4096),
         help='how many rows a band of "trap page" has, 1 to 4096; asks for that program too')
+    add("--keepaway", metavar="W",
+        help="draws inks back under rich black, and whites under the colours on them, so that they do not show at "
+             'edges: a width with its unit, or "off". The default is the trap width of the page')
+    add("--no-keepaway", dest="keepaway", action="store_const", const="off",
+        help="draws no ink back: the same as --keepaway off")
     add("-c", "--check", metavar="R", type=whole("--check", 0, 16),
         help='runs the program "presscheck" too, with a radius of 0 to 16 samples, and keeps what it prints in '
              'DIR/trapped/check: how many pixels that misregistration could leave unprinted, before and after. If the '
