@@ -10,7 +10,8 @@ from .command import version
 from .errors import PressError
 from .folder import TRAPPED, WARNINGS, PageFolder, read_table
 from .inks import Ink
-from .job_record import DONE, OPTIONS, Record, digest_of, page_of, read_record, write_record
+from .job_record import DONE, OPTIONS, PAGES, Record, digest_of, page_of, read_record, write_record
+from .settings import KEEPAWAY
 
 
 def digest_of_plates(folder: str, inks: Sequence[Ink]) -> str:
@@ -49,10 +50,12 @@ def is_unchanged(old: str, made: PageFolder, part: Record) -> bool:
 
 def keep(old: str, made: PageFolder, part: Record) -> None:
     """Makes the folder of an unchanged page one of the new file: its record, and what was found in the file."""
-    digests = page_of(read_record(old), made.source.page)["digests"]
-    page_of(part, made.source.page)["digests"].update(digests)
-    record = read_record(old)
+    record, number = read_record(old), made.source.page
+    before = page_of(record, number)
+    page_of(part, number)["digests"].update(before["digests"])
     record.update(part)
+    if KEEPAWAY in before:
+        record[PAGES][str(number)][KEEPAWAY] = before[KEEPAWAY]
     os.replace(made.file(WARNINGS), os.path.join(old, WARNINGS))
     write_record(old, record)
 
