@@ -14,6 +14,7 @@ from .files import disk_use, folder_beside, free_room, is_full
 from .findings import Finding, refusal_for
 from .folder import TIFF, TRAPPED, WARNINGS, JobFolder, PageFolder, read_table
 from .inks import InkBook
+from .keepaway import BEGUN
 from .names import PROCESS, clean
 from .recorded import options_from, without_run_only
 from .settings import Settings
@@ -213,3 +214,4 @@ def drop_plates(folder: str) -> None:
         for file in os.listdir(place):
             if file.endswith(".pgm"):
                 os.remove(os.path.join(place, file))
+    shutil.rmtree(os.path.join(folder, TRAPPED, BEGUN), ignore_errors=True)
