@@ -243,7 +243,8 @@ def presets() -> list[dict[str, Any]]:
     folders = [folder for folder in (house_folder(), PRESETS) if folder]
     names = sorted({one.stem for folder in folders for one in Path(folder).glob("*.preset")})
     return [{"name": name, "settings": {PARAMETERS[key].key: round(value.number * SCALE)
-                                        for key, value in preset_values(name).items()}} for name in names]
+                                        for key, value in preset_values(name).items() if PARAMETERS[key].key}}
+            for name in names]
 
 
 def pages_of(folder: Path) -> list[tuple[int, Path, str]]:
