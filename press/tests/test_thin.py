@@ -2,11 +2,12 @@
 """Thin strokes on plates: which parts are found, how thick they are, and the width that leaves them a third.
 Pages are drawn here."""
 import math
+import tracemalloc
 
 import numpy as np
 import pytest
 
-from press import strokes, thin
+from press import canvas, strokes, thin
 from press.strokes import Box, Ink, Rule
 
 pytestmark = [pytest.mark.quick, pytest.mark.plain]
@@ -282,3 +283,49 @@ def test_own_share_by_reach():
     line = thin.Line(tuple(parts_of(plates)), 4, False, 1.118, 0.13)
     shares = [thin.own_share(plates, INKS, OFFSET, [line], [reach]) for reach in (0, 0.5, 1.118, 1.5)]
     assert shares == pytest.approx([1, 0.496, 0.496, 0], abs=0.01)
+
+
+@pytest.mark.parametrize("reach", (0.5, 1.118, 1.89, 4.72))
+def test_own_share_is_that_of_each_part_by_itself(reach, monkeypatch):
+    """Parts lie side by side on canvases: none changes what is counted of another, on one canvas or on many."""
+    plates = page(400, 1500, RED)
+    chance = np.random.default_rng(57)
+    for row in range(6):
+        for column in range(20):
+            wide, high = chance.integers(1, 9), chance.integers(1, 60)
+            bar(plates, 10 + 74 * column, 10 + 65 * row, *((wide, high) if column % 2 else (high, wide)), BLUE)
+    parts = parts_of(plates, FLEXO)
+    assert len(parts) > 100
+    own = np.array([plates[0] == 0] * 4).all(axis=0)
+    middle = np.zeros_like(own)
+    for row, column in zip(*np.nonzero(own[:, :-1] != own[:, 1:])):
+        near_edges(middle, row, column + 0.5, reach)
+    for row, column in zip(*np.nonzero(own[:-1] != own[1:])):
+        near_edges(middle, row + 0.5, column, reach)
+    counted = np.zeros_like(own)
+    for part in parts:
+        counted[part.box.upper:part.box.lower, part.box.left:part.box.right] = True
+    expected = 1 - (own & middle & counted).sum() / (own & counted).sum()
+    line = thin.Line(tuple(parts), 4, False, reach, 0.13)
+    assert thin.own_share(plates, INKS, FLEXO, [line], [reach]) == pytest.approx(expected, abs=1e-9)
+    monkeypatch.setattr(canvas, "CANVAS_PIXELS", 5000)
+    assert thin.own_share(plates, INKS, FLEXO, [line], [reach]) == pytest.approx(expected, abs=1e-9)
+
+
+def near_edges(out, row, column, reach):
+    """Marks the pixels whose middle lies within a reach of the middle of an edge."""
+    rows, columns = np.mgrid[max(0, int(row - reach)):int(row + reach + 2), max(0, int(column - reach)):int(column + reach + 2)]
+    rows, columns = np.minimum(rows, out.shape[0] - 1), np.minimum(columns, out.shape[1] - 1)
+    out[rows, columns] |= np.hypot(rows - row, columns - column) <= reach
+
+
+def test_a_wide_page_takes_little_memory():
+    """Masks have a bit for each pixel, and samples are looked at where they lie: at most 4 bytes for each pixel of a strip."""
+    plates = page(512, 8000, RED)
+    for place in range(700):
+        bar(plates, 20 + 11 * place, 20 + place % 400, 4, 24, BLUE)
+    tracemalloc.start()
+    found = parts_of(plates)
+    most = tracemalloc.get_traced_memory()[1]
+    tracemalloc.stop()
+    assert len(found) > 500 and most < 4 * 256 * 8000

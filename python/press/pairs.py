@@ -14,12 +14,13 @@ from typing import Any
 import numpy as np
 import numpy.typing as npt
 
+from . import bits
 from .errors import PressError, Status, UsageError
 from .files import beside
 from .inks import Ink, Origin, entries_of, ink_called
 from .names import readable
 from .settings import Settings, house_file
-from .strokes import Box, edges_of, steps_of
+from .strokes import Box, Edges, edges_of, steps_of
 from .strokes import Ink as StrokeInk
 from .strokes import Rule
 from .tables import counts
@@ -159,11 +160,11 @@ def meeting_boxes(planes: Sequence[Any], inks: Sequence[Ink], pair: tuple[int, i
     for top in range(0, height, tile):
         rows = [np.ascontiguousarray(planes[at][top:min(height, top + tile + 1)]) for at in kept]
         of_pair = edges_of([rows[kept.index(at)] for at in pair], [steps[kept.index(at)] for at in pair])
-        mine = marks_of(of_pair.right_calls, of_pair.lower_calls, tile)
+        mine = marks_of(of_pair, tile, width)
         if not mine.any():
             continue
         edges = edges_of(rows, steps)
-        everything = marks_of(edges.right_calls, edges.lower_calls, tile)
+        everything = marks_of(edges, tile, width)
         columns = np.flatnonzero(mine.any(axis=0))
         for column in np.unique(columns // tile):
             part = np.s_[:, column * tile:(column + 1) * tile]
@@ -176,6 +177,6 @@ def meeting_boxes(planes: Sequence[Any], inks: Sequence[Ink], pair: tuple[int, i
     return boxes, own, foreign
 
 
-def marks_of(right: npt.NDArray[np.bool_], lower: npt.NDArray[np.bool_], rows: int) -> npt.NDArray[np.bool_]:
-    """The pixels of a tile's own rows that have an edge to the right or below."""
-    return np.asarray((right | lower)[:rows])
+def marks_of(edges: Edges, rows: int, width: int) -> npt.NDArray[np.bool_]:
+    """The pixels of a tile's own rows that have an edge to the right or below that calls for a trap."""
+    return bits.unpacked((edges.right_calls | edges.lower_calls)[:rows], width)

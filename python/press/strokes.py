@@ -20,9 +20,9 @@ from dataclasses import dataclass, field
 import numpy as np
 import numpy.typing as npt
 
-Plane = npt.NDArray[np.uint8]
-Mask = npt.NDArray[np.bool_]
-Numbers = npt.NDArray[np.int64]
+from . import bits
+from .bits import Words
+from .stroke_runs import Covers, Mask, Numbers, Plane, Runs, Tallies, roots_of
 
 # Twice the area over the outline is low at slanted strokes, whose outline is a staircase.
 SLANT = 1.15
@@ -78,6 +78,11 @@ class Box:
     def grown(self, by: int) -> Box:
         return Box(self.left - by, self.upper - by, self.right + by, self.lower + by)
 
+    def common(self, other: Box) -> Box:
+        """What it has in common with another one that it meets."""
+        return Box(max(self.left, other.left), max(self.upper, other.upper), min(self.right, other.right),
+                   min(self.lower, other.lower))
+
     def meets(self, other: Box) -> bool:
         return (self.left < other.right and other.left < self.right
                 and self.upper < other.lower and other.upper < self.lower)
@@ -107,13 +112,20 @@ def drawn_reach(width: float, resolution: int) -> int:
 
 @dataclass
 class Edges:
-    """The edges of a window: between each pixel and its right neighbour, and between each pixel and its lower
-    neighbour."""
+    """The edges of a window: the pixels that have one to the right neighbour, and to the lower neighbour; those that
+    have one that calls for a trap; and those that have none to the right and to the lower neighbour. `inside` is the
+    row of the window's columns."""
 
-    right: Mask
-    lower: Mask
-    right_calls: Mask
-    lower_calls: Mask
+    right: Words
+    lower: Words
+    right_calls: Words
+    lower_calls: Words
+    inside: Words
+    across: Words = field(init=False)
+    down: Words = field(init=False)
+
+    def __post_init__(self) -> None:
+        self.across, self.down = ~self.right & bits.moved(self.inside[None], -1), ~self.lower
 
 
 def steps_of(inks: Sequence[Ink], rule: Rule) -> list[int]:
@@ -125,238 +137,116 @@ def edges_of(planes: Sequence[Plane], steps: Sequence[int]) -> Edges:
     """The edges at which any plane changes by its step; those at which one rises and another falls call for a
     trap."""
     height, width = planes[0].shape
-    out = [np.zeros((height, width), bool) for _ in range(4)]
-    rows = max(16, BLOCK_PIXELS // max(1, width))
-    for top in range(0, height, rows):
-        add_edges([one[top:top + rows] for one in out], [plane[top:top + rows + 1] for plane in planes], steps)
-    rising, falling, rising_down, falling_down = out
-    calls, calls_down = rising & falling, rising_down & falling_down
-    np.logical_or(rising, falling, out=rising)
-    np.logical_or(rising_down, falling_down, out=rising_down)
-    return Edges(rising, rising_down, calls, calls_down)
+    found = np.stack([bits.empty(height, width)] * 4)
+    block = Block(min(height, max(16, BLOCK_PIXELS // max(1, width))), found.shape[2] * bits.WORD)
+    for top in range(0, height, block.rows):
+        own = min(block.rows, height - top)
+        if block.mark([plane[top:top + own + 1] for plane in planes], steps):
+            found[:, top:top + own] = bits.packed(block.marks)[:, :own]
+    inside = bits.columns(0, width, width)
+    found[:2] &= bits.columns(0, width - 1, width)
+    found[2:] &= inside
+    rising, falling, rising_down, falling_down = found
+    return Edges(rising | falling, rising_down | falling_down, rising & falling, rising_down & falling_down, inside)
 
 
-def add_edges(out: Sequence[Mask], planes: Sequence[Plane], steps: Sequence[int]) -> None:
-    """Marks where a plane rises and falls by its step to the right and down. The planes have one more row than the
-    marks, unless they end with the page."""
-    height = out[0].shape[0]
-    for plane, step in zip(planes, steps):
-        if plane.size == 0 or int(plane.max()) - int(plane.min()) < step:
-            continue
-        reduced = np.maximum(plane, np.uint8(step - 1)) - np.uint8(step - 1)
-        own, below = plane[:height], plane[1:]
-        out[0][:, :-1] |= reduced[:height, 1:] > own[:, :-1]
-        out[1][:, :-1] |= reduced[:height, :-1] > own[:, 1:]
-        out[2][:len(below)] |= reduced[1:] > plane[:-1]
-        out[3][:len(below)] |= reduced[:-1] > below
+class Block:
+    """Some rows of a window as one line of samples, so that NumPy's loops are long. `marks` has the pixels from which a
+    plane rises and falls to the right, and rises and falls down."""
+
+    def __init__(self, rows: int, pitch: int):
+        self.rows, self.pitch = rows, pitch
+        self.marks = np.zeros((4, rows, pitch), bool)
+        self.samples, self.reduced = np.zeros((2, rows + 1, pitch), np.uint8)
+        self.more = np.zeros(rows * pitch, bool)
+
+    def mark(self, planes: Sequence[Plane], steps: Sequence[int]) -> bool:
+        """Marks the edges of some rows and of one more, unless they end with the page, and answers whether there may be
+        any. What is marked beyond the planes' columns and rows means nothing."""
+        is_first = True
+        for plane, step in zip(planes, steps):
+            height, width = plane.shape
+            self.samples[:height, :width] = plane
+            self.samples[:height, width:] = plane[:, -1:]
+            samples = self.samples[:height].reshape(-1)
+            if int(samples.max()) - int(samples.min()) < step:
+                continue
+            reduced = self.reduced[:height].reshape(-1)
+            np.maximum(samples, np.uint8(step - 1), out=reduced)
+            reduced -= np.uint8(step - 1)
+            for marks, ahead in zip(self.marks.reshape(4, -1), (1, -1, self.pitch, -self.pitch)):
+                self.add(marks, samples, reduced, ahead, is_first)
+            is_first = False
+        return not is_first
+
+    def add(self, marks: Mask, samples: Plane, reduced: Plane, ahead: int, is_first: bool) -> None:
+        """Marks where the samples rise by the step to those so many samples ahead, or fall if `ahead` is below 0."""
+        far = abs(ahead)
+        one, other = (reduced[far:], samples[:-far]) if ahead > 0 else (reduced[:-far], samples[far:])
+        count = min(len(marks), len(one))
+        if is_first:
+            marks[count:] = False
+            np.greater(one[:count], other[:count], out=marks[:count])
+            return
+        more = np.greater(one[:count], other[:count], out=self.more[:count])
+        marks[:count] |= more
 
 
-def spread(mask: Mask, reach: int) -> Mask:
-    """Each pixel within `reach` rows and columns of one that is set."""
-    out = mask
-    for axis in (0, 1):
-        out = _spread_along(out, reach, axis)
-    return out
-
-
-def _spread_along(mask: Mask, reach: int, axis: int) -> Mask:
-    length = mask.shape[axis]
-    shape = list(mask.shape)
-    shape[axis] = length + 2 * reach
-    wide = np.zeros(shape, bool)
-    wide[_along(axis, reach, reach + length)] = mask
-    window, covered = 2 * reach + 1, 1
-    size = shape[axis]
-    while covered < window:
-        step = min(covered, window - covered)
-        size -= step
-        wide[_along(axis, 0, size)] |= wide[_along(axis, step, step + size)].copy()
-        covered += step
-    return wide[_along(axis, 0, length)]
-
-
-def grown_within(mask: Mask, edges: Edges) -> Mask:
+def grown_within(words: Words, edges: Edges) -> Words:
     """Each pixel that is set or has a neighbour that is, with no edge between."""
-    out = mask.copy()
-    rows = max(16, BLOCK_PIXELS // max(1, mask.shape[1]))
-    for top in range(0, mask.shape[0], rows):
-        own = slice(top, top + rows)
-        across, some = edges.right[own, :-1], mask[own]
-        # A pixel that is set, and an edge that is not.
-        out[own, 1:] |= some[:, :-1] > across
-        out[own, :-1] |= some[:, 1:] > across
-        upper, lower = mask[top:top + rows + 1][:-1], mask[top + 1:top + rows + 1]
-        down = edges.lower[top:top + len(lower)]
-        out[top + 1:top + rows + 1] |= upper > down
-        out[top:top + len(lower)] |= lower > down
+    out = words.copy()
+    bits.add_moved(out, words & edges.across, 1)
+    out |= bits.moved(words, -1) & edges.across
+    out[1:] |= words[:-1] & edges.down[:-1]
+    out[:-1] |= words[1:] & edges.down[:-1]
     return out
-
-
-def _along(axis: int, first: int, last: int) -> tuple[slice, ...]:
-    return (slice(first, last),) if axis == 0 else (slice(None), slice(first, last))
-
-
-# Connected parts
-
-def roots_of(count: int, one: Numbers, other: Numbers) -> Numbers:
-    """Of each node the number of its component, from 0, where `one` and `other` are the ends of the links."""
-    parent = np.arange(count)
-    while len(one):
-        first, second = parent[one], parent[other]
-        apart = first != second
-        one, other = first[apart], second[apart]
-        parent[np.maximum(one, other)] = np.minimum(one, other)
-        while True:
-            above = parent[parent]
-            if np.array_equal(above, parent):
-                break
-            parent = above
-    return np.asarray((np.cumsum(parent == np.arange(count)) - 1)[parent])
-
-
-SUMS = ("area", "outline", "calls", "slides", "darker", "black", "at_black", "attached")
-
-
-@dataclass
-class Tallies:
-    """What is counted of parts, one column for each part. Boxes are inclusive here; `colour` has a row for each
-    plane."""
-
-    area: Numbers
-    outline: Numbers
-    calls: Numbers
-    slides: Numbers
-    darker: Numbers
-    black: Numbers
-    at_black: Numbers
-    attached: Numbers
-    left: Numbers
-    upper: Numbers
-    right: Numbers
-    lower: Numbers
-    colour: Plane
-
-    @classmethod
-    def of_runs(cls, runs: Runs, colour: Plane) -> Tallies:
-        """Runs of which nothing but their size is counted yet."""
-        area = runs.last - runs.first + 1
-        one, two, three, four, five, six, seven = np.zeros((7, len(area)), np.int64)
-        return cls(area, one, two, three, four, five, six, seven, runs.first, runs.row, runs.last, runs.row, colour)
-
-    def chosen(self, which: Numbers) -> Tallies:
-        """Some of the columns."""
-        return Tallies(**{name: getattr(self, name)[..., which] for name in self.__dataclass_fields__})
-
-    def joined(self, other: Tallies) -> Tallies:
-        """The columns of both."""
-        return Tallies(**{name: np.concatenate((getattr(self, name), getattr(other, name)), axis=-1)
-                          for name in self.__dataclass_fields__})
-
-    def merged(self, of: Numbers, count: int) -> Tallies:
-        """The tallies of components, where `of` is the component of each column. The first column gives the
-        colour."""
-        if not count:
-            return self
-        values: dict[str, Numbers] = {}
-        for name in SUMS:
-            values[name] = np.bincount(of, getattr(self, name), count).astype(np.int64)
-        order = np.argsort(of, kind="stable")
-        starts = np.searchsorted(of[order], np.arange(count))
-        values["left"], values["upper"] = (np.minimum.reduceat(one[order], starts) for one in (self.left, self.upper))
-        values["right"], values["lower"] = (np.maximum.reduceat(one[order], starts) for one in (self.right, self.lower))
-        return Tallies(**values, colour=self.colour[:, order[starts]])
-
-
-@dataclass
-class Runs:
-    """Runs of pixels of one part in a row: the row, the first and the last column, and the part's number."""
-
-    row: Numbers
-    first: Numbers
-    last: Numbers
-    part: Numbers
-
-    @classmethod
-    def none(cls) -> Runs:
-        return cls(*(np.zeros(0, np.int64) for _ in range(4)))
-
-    def chosen(self, which: Numbers | Mask) -> Runs:
-        return Runs(self.row[which], self.first[which], self.last[which], self.part[which])
-
-    def joined(self, other: Runs) -> Runs:
-        return Runs(np.concatenate((self.row, other.row)), np.concatenate((self.first, other.first)),
-                    np.concatenate((self.last, other.last)), np.concatenate((self.part, other.part)))
-
-
-@dataclass
-class Covers:
-    """Boxes within tiles that a part's pixels fill, inclusive, with the part's number."""
-
-    left: Numbers
-    upper: Numbers
-    right: Numbers
-    lower: Numbers
-    part: Numbers
-
-    @classmethod
-    def none(cls) -> Covers:
-        return cls(*(np.zeros(0, np.int64) for _ in range(5)))
-
-    @classmethod
-    def of_runs(cls, runs: Runs, tile: int) -> Covers:
-        """The boxes of runs, tile by tile."""
-        first, last = runs.first // tile, runs.last // tile
-        count = last - first + 1
-        again = np.repeat(np.arange(len(count)), count)
-        column = first[again] + np.arange(len(again)) - np.repeat(np.cumsum(count) - count, count)
-        left = np.maximum(runs.first[again], column * tile)
-        right = np.minimum(runs.last[again], column * tile + tile - 1)
-        return cls(left, runs.row[again], right, runs.row[again], runs.part[again]).packed(tile)
-
-    def boxes(self) -> Iterator[Box]:
-        """The boxes."""
-        for left, upper, right, lower in zip(self.left, self.upper, self.right, self.lower):
-            yield Box(int(left), int(upper), int(right) + 1, int(lower) + 1)
-
-    def packed(self, tile: int) -> Covers:
-        """One box for each part and tile."""
-        if not len(self.part):
-            return self
-        order = np.lexsort((self.left // tile, self.upper // tile, self.part))
-        columns, rows, parts = (self.left // tile)[order], (self.upper // tile)[order], self.part[order]
-        new = np.ones(len(order), bool)
-        new[1:] = (np.diff(columns) != 0) | (np.diff(rows) != 0) | (np.diff(parts) != 0)
-        starts = np.flatnonzero(new)
-        left, upper = (np.minimum.reduceat(one[order], starts) for one in (self.left, self.upper))
-        right, lower = (np.maximum.reduceat(one[order], starts) for one in (self.right, self.lower))
-        return Covers(left, upper, right, lower, parts[starts])
-
-    def chosen(self, which: Numbers | Mask) -> Covers:
-        return Covers(self.left[which], self.upper[which], self.right[which], self.lower[which], self.part[which])
-
-    def joined(self, other: Covers) -> Covers:
-        names = ("left", "upper", "right", "lower", "part")
-        return Covers(*(np.concatenate((getattr(self, name), getattr(other, name))) for name in names))
 
 
 # One strip
 
 @dataclass
-class Window:
-    """A stretch of a strip that has edges to trap: its planes with a margin around, and its place on the page."""
+class Rows:
+    """The rows of a strip with a margin above and below. The strip's own rows go from `first` up to `last`, without it;
+    `upper` is where the first row of all lies on the page."""
 
     planes: list[Plane]
-    left: int
     upper: int
-    first_row: int
-    last_row: int
-    width: int = field(init=False)
+    first: int
+    last: int
 
     def __post_init__(self) -> None:
         self.width = self.planes[0].shape[1]
+        self.samples = [plane.reshape(-1) for plane in self.planes]
 
-    def flat(self) -> list[Plane]:
-        return [plane.reshape(-1) for plane in self.planes]
+
+@dataclass
+class Window:
+    """A stretch of a strip that has edges to trap: its columns from `left` up to `right`, without it, and the numbers
+    of the planes that change there."""
+
+    rows: Rows
+    left: int
+    right: int
+    changing: list[int]
+
+    def __post_init__(self) -> None:
+        self.width = self.right - self.left
+        self.pitch = bits.WORD * -(-self.width // bits.WORD)
+
+    def edges(self, steps: Sequence[int]) -> Edges:
+        """Its edges, where an ink has to change by so many tints."""
+        planes = [self.rows.planes[at][:, self.left:self.right] for at in self.changing]
+        return edges_of(planes, [steps[at] for at in self.changing])
+
+    def rows_and_columns(self, places: Numbers) -> tuple[Numbers, Numbers]:
+        """Where places of the window's masks are on the page."""
+        row = places // self.pitch
+        return row + self.rows.upper, places - row * self.pitch + self.left
+
+    def samples(self, places: Numbers) -> Numbers:
+        """Where places of the window's masks are in the samples of the strip's rows."""
+        row = places // self.pitch
+        return places + row * (self.rows.width - self.pitch) + self.left
 
 
 class Finder:
@@ -386,7 +276,7 @@ class Finder:
         rows = max(STRIP_ROWS, 4 * self.margin)
         for top in range(0, self.height, rows):
             bottom = min(self.height, top + rows)
-            strip = Strip(self, top, bottom, open_runs, open_tallies)
+            strip = Strip(self, self.rows(top, bottom), open_runs, open_tallies)
             yield from strip.finished(open_covers)
             open_runs, open_tallies, open_covers = strip.still_open(open_covers)
         yield from self.as_parts(open_tallies, open_covers)
@@ -394,29 +284,33 @@ class Finder:
     def no_tallies(self) -> Tallies:
         return Tallies.of_runs(Runs.none(), np.zeros((len(self.planes), 0), np.uint8))
 
-    def windows(self, top: int, bottom: int) -> Iterator[Window]:
+    def rows(self, top: int, bottom: int) -> Rows:
+        """The rows of a strip."""
+        above, below = max(0, top - self.margin), min(self.height, bottom + self.margin)
+        return Rows([np.asarray(plane[above:below]) for plane in self.planes], above, top - above, bottom - above)
+
+    def windows(self, rows: Rows) -> Iterator[Window]:
         """The stretches of a strip in which two planes change, with a tile and the margin around."""
         step = max(TILE, self.margin)
-        active = np.zeros(-(-self.width // step), np.int8)
-        upper, lower = max(0, top - 1), min(self.height, bottom + 1)
-        starts = np.arange(0, self.width, step)
-        for plane, least in zip(self.planes, self.steps):
-            rows = plane[upper:lower]
-            high = np.maximum.reduceat(rows.max(axis=0), starts)
-            low = np.minimum.reduceat(rows.min(axis=0), starts)
-            # An edge between two tiles belongs to both.
-            high[:-1], low[:-1] = np.maximum(high[:-1], high[1:]), np.minimum(low[:-1], low[1:])
-            active += high.astype(np.int16) - low >= least
-        lively = active >= 2
+        upper, lower = max(0, rows.first - 1), min(len(rows.planes[0]), rows.last + 1)
+        changes = np.stack([tiles_that_change(plane[upper:lower], step, least)
+                            for plane, least in zip(rows.planes, self.steps)])
+        lively = changes.sum(axis=0) >= 2
         for box in self.skip:
-            if box.upper <= upper and lower <= box.lower:
+            if box.upper <= upper + rows.upper and lower + rows.upper <= box.lower:
                 lively[-(-box.left // step):box.right // step] = False
-        bounds = np.flatnonzero(np.diff(np.concatenate(([False], spread(lively[None, :], 1)[0], [False]))))
-        above, below = max(0, top - self.margin), min(self.height, bottom + self.margin)
+        around = lively.copy()
+        around[1:] |= lively[:-1]
+        around[:-1] |= lively[1:]
+        bounds = np.flatnonzero(np.diff(np.concatenate(([False], around, [False])))).tolist()
+        if not bounds:
+            return
+        for at, (plane, least) in enumerate(zip(rows.planes, self.steps)):
+            for margin in (plane[:upper + 1], plane[lower - 1:]):
+                changes[at] |= tiles_that_change(margin, step, least)
         for first, last in zip(bounds[::2], bounds[1::2]):
-            left, right = int(first) * step, min(self.width, int(last) * step)
-            planes = [np.ascontiguousarray(plane[above:below, left:right]) for plane in self.planes]
-            yield Window(planes, left, above, top - above, bottom - above)
+            used = np.flatnonzero(changes[:, first:last].any(axis=1)).tolist()
+            yield Window(rows, first * step, min(self.width, last * step), used)
 
     def is_black(self, values: Sequence[npt.NDArray[np.uint8]]) -> Mask:
         """Where an ink that is dense enough is black by its tint."""
@@ -444,34 +338,46 @@ class Finder:
     def as_parts(self, tallies: Tallies, covers: Covers) -> Iterator[Part]:
         """The parts of tallies that are kept; `covers` has the tiles of those that are sparse."""
         kept = np.flatnonzero(self.is_kept(tallies))
+        some = tallies.chosen(kept)
         order = np.argsort(covers.part, kind="stable")
-        covers = covers.chosen(order)
-        for number in kept:
-            one = tallies.chosen(np.array([number]))
-            box = Box(int(one.left[0]), int(one.upper[0]), int(one.right[0]) + 1, int(one.lower[0]) + 1)
-            boxes: tuple[Box, ...] = (box,)
-            if self.is_sparse(one)[0]:
-                span = slice(*np.searchsorted(covers.part, (number, number + 1)))
-                boxes = tuple(covers.chosen(np.arange(span.start, span.stop)).boxes())
-            changed = 2 * (one.darker + one.slides)[0] > one.calls[0]
-            yield Part(box, boxes, tuple(int(255 - value) // 32 for value in one.colour[:, 0]), int(one.area[0]),
-                       int(one.outline[0]), bool(2 * one.slides[0] > one.calls[0]), not changed,
-                       bool(one.attached[0]))
+        tiles = boxes_of(covers.left[order], covers.upper[order], covers.right[order], covers.lower[order])
+        numbers = covers.part[order]
+        spans = zip(np.searchsorted(numbers, kept).tolist(), np.searchsorted(numbers, kept, "right").tolist())
+        columns = (some.area, some.outline, 2 * some.slides > some.calls, 2 * (some.darker + some.slides) <= some.calls,
+                   some.attached > 0, self.is_sparse(some))
+        for box, colour, span, (area, outline, slides, lighter, attached, sparse) in zip(
+                boxes_of(some.left, some.upper, some.right, some.lower), ((255 - some.colour) // 32).T.tolist(), spans,
+                zip(*(column.tolist() for column in columns))):
+            covering = tuple(tiles[slice(*span)]) if sparse else (box,)
+            yield Part(box, covering, tuple(colour), area, outline, slides, lighter, attached)
 
     def is_sparse(self, tallies: Tallies) -> Mask:
         high, wide = tallies.lower - tallies.upper + 1, tallies.right - tallies.left + 1
         return np.asarray((tallies.area < SPARSE * high * wide) & (np.maximum(high, wide) > TILE_WIDTHS * self.pixels))
 
 
+def tiles_that_change(plane: Plane, step: int, least: int) -> Mask:
+    """In which tiles of so many columns a plane may change from one pixel to the next; a change between two tiles
+    belongs to the first one."""
+    starts = np.arange(0, plane.shape[1], step)
+    high, low = np.maximum.reduceat(plane.max(axis=0), starts), np.minimum.reduceat(plane.min(axis=0), starts)
+    high[:-1], low[:-1] = np.maximum(high[:-1], high[1:]), np.minimum(low[:-1], low[1:])
+    return np.asarray(high.astype(np.int16) - low >= least)
+
+
+def boxes_of(left: Numbers, upper: Numbers, right: Numbers, lower: Numbers) -> list[Box]:
+    """Boxes of which the sides are given inclusive."""
+    return [Box(*sides) for sides in zip(left.tolist(), upper.tolist(), (right + 1).tolist(), (lower + 1).tolist())]
+
+
 class Strip:
     """The parts of some rows, joined with those that the rows above left open."""
 
-    def __init__(self, finder: Finder, top: int, bottom: int, open_runs: Runs, open_tallies: Tallies):
-        self.finder, self.top, self.bottom = finder, top, bottom
-        self.base = len(open_tallies.area)
+    def __init__(self, finder: Finder, rows: Rows, open_runs: Runs, open_tallies: Tallies):
+        self.finder, self.rows = finder, rows
         self.links: list[tuple[Numbers, Numbers]] = []
         self.runs, self.tallies = Runs.none(), open_tallies
-        for window in finder.windows(top, bottom):
+        for window in finder.windows(rows):
             self.add(window, open_runs)
         count = len(self.tallies.area)
         one = np.concatenate([link[0] for link in self.links]) if self.links else np.zeros(0, np.int64)
@@ -481,17 +387,18 @@ class Strip:
         self.tallies = self.tallies.merged(self.component, self.count)
         self.runs.part = self.component[self.runs.part]
         self.open = np.zeros(self.count, bool)
-        if bottom < finder.height:
-            self.open[self.runs.part[self.runs.row == bottom - 1]] = True
+        self.bottom = rows.upper + rows.last
+        if self.bottom < finder.height:
+            self.open[self.runs.part[self.runs.row == self.bottom - 1]] = True
 
     def add(self, window: Window, open_runs: Runs) -> None:
         """The runs of a window, what is counted of them, and how they hang together."""
-        edges = edges_of(window.planes, self.finder.steps)
-        if not (edges.right_calls[window.first_row:window.last_row].any()
-                or edges.lower_calls[max(0, window.first_row - 1):window.last_row].any()):
+        edges = window.edges(self.finder.steps)
+        if not (edges.right_calls[self.rows.first:self.rows.last].any()
+                or edges.lower_calls[max(0, self.rows.first - 1):self.rows.last].any()):
             return
         thin = self.thin_pixels(window, edges)
-        if not self.is_bounded(window, edges, thin):
+        if not self.is_bounded(edges, thin):
             return
         pieces = WindowRuns(self.finder, window, edges, thin)
         at = len(self.tallies.area)
@@ -501,34 +408,35 @@ class Strip:
         self.runs = self.runs.joined(runs)
         self.tallies = self.tallies.joined(pieces.tallies(runs))
 
-    @staticmethod
-    def is_bounded(window: Window, edges: Edges, thin: Mask) -> bool:
+    def is_bounded(self, edges: Edges, thin: Words) -> bool:
         """Whether any thin pixel of the strip lies at an edge that calls for a trap."""
-        rows = slice(max(0, window.first_row - 1), window.last_row)
+        rows = slice(max(0, self.rows.first - 1), self.rows.last)
         right, lower, some = edges.right_calls[rows], edges.lower_calls[rows], thin[rows]
-        return bool((right & some).any() or (lower & some).any()
-                    or (right[:, :-1] & some[:, 1:]).any() or (lower[:-1] & some[1:]).any())
+        return bool((right & (some | bits.moved(some, -1))).any() or (lower & some).any()
+                    or (lower[:-1] & some[1:]).any())
 
-    def thin_pixels(self, window: Window, edges: Edges) -> Mask:
+    def thin_pixels(self, window: Window, edges: Edges) -> Words:
         """What no thick shape reaches: it is thick around every pixel without an edge near."""
         touching = edges.right | edges.lower
-        touching[:, 1:] |= edges.right[:, :-1]
+        bits.add_moved(touching, edges.right, 1)
         touching[1:] |= edges.lower[:-1]
-        skipped = np.zeros_like(touching)
+        seen = np.broadcast_to(edges.inside, touching.shape)
         for box in self.finder.skip:
-            skipped[max(0, box.upper - window.upper):max(0, box.lower - window.upper),
-                    max(0, box.left - window.left):max(0, box.right - window.left)] = True
+            if box.meets(Box(window.left, self.rows.upper, window.right, self.rows.upper + len(touching))):
+                seen = seen.copy()
+                seen[max(0, box.upper - self.rows.upper):max(0, box.lower - self.rows.upper)] &= ~bits.columns(
+                    box.left - window.left, box.right - window.left, window.width)
         reach = self.finder.reach
         # No edge lies within `reach` of a core, so what is spread from it by as much belongs to the same part.
-        thick = spread(~spread(touching, reach) & ~skipped, reach)
+        thick = bits.spread(~bits.spread(touching, reach, edges.inside) & seen, reach, edges.inside)
         for _ in range(reach // 2 + 1):
             thick = grown_within(thick, edges)
-        return np.asarray(~thick & ~skipped)
+        return np.asarray(~thick & seen)
 
     def links_above(self, window: Window, edges: Edges, above: Runs, runs: Runs) -> tuple[Numbers, Numbers]:
         """Which runs of the first row go on from runs of the row above the strip."""
-        row = window.first_row - 1
-        first = np.flatnonzero(runs.row == self.top)
+        row = self.rows.first - 1
+        first = np.flatnonzero(runs.row == self.rows.first + self.rows.upper)
         if row < 0 or not len(first) or not len(above.row):
             return np.zeros(0, np.int64), np.zeros(0, np.int64)
         part_above, part_below = (np.full(window.width, -1) for _ in range(2))
@@ -536,7 +444,7 @@ class Strip:
             for start, last, part in zip(some.first - window.left, some.last - window.left, some.part):
                 if last >= 0 and start < window.width:
                     table[max(0, start):last + 1] = part
-        joined = (part_above >= 0) & (part_below >= 0) & ~edges.lower[row]
+        joined = (part_above >= 0) & (part_below >= 0) & bits.unpacked(edges.down[row:row + 1], window.width)[0]
         pairs = np.unique(np.stack((part_above[joined], part_below[joined])), axis=1)
         return pairs[0], pairs[1]
 
@@ -570,66 +478,64 @@ class Strip:
 class WindowRuns:
     """The runs of the thin pixels of a window."""
 
-    def __init__(self, finder: Finder, window: Window, edges: Edges, thin: Mask):
+    def __init__(self, finder: Finder, window: Window, edges: Edges, thin: Words):
         self.finder, self.window, self.edges = finder, window, edges
-        thin[:window.first_row] = False
-        thin[window.last_row:] = False
-        self.thin, self.flat = thin, thin.reshape(-1)
-        begins = thin.copy()
-        begins[:, 1:] &= ~thin[:, :-1] | edges.right[:, :-1]
-        ends = thin.copy()
-        ends[:, :-1] &= ~thin[:, 1:] | edges.right[:, :-1]
-        self.begins = begins
-        self.starts, self.stops = np.flatnonzero(begins), np.flatnonzero(ends)
+        thin[:window.rows.first] = 0
+        thin[window.rows.last:] = 0
+        self.thin = thin
+        self.begins = thin & ~bits.moved(thin & edges.across, 1)
+        self.starts = bits.places(self.begins)
+        self.stops = bits.places(thin & ~(bits.moved(thin, -1) & edges.across))
 
     def of(self, places: Numbers) -> Numbers:
         """Of places within thin pixels the runs that they lie in."""
         return np.searchsorted(self.starts, places, "right") - 1
 
     def runs(self, base: int) -> Runs:
-        width = self.window.width
-        row = self.starts // width
-        left = self.window.left - row * width
-        return Runs(row + self.window.upper, self.starts + left, self.stops + left, base + np.arange(len(row)))
+        row, first = self.window.rows_and_columns(self.starts)
+        _, last = self.window.rows_and_columns(self.stops)
+        return Runs(row, first, last, base + np.arange(len(row)))
 
     def links(self) -> Iterator[tuple[Numbers, Numbers]]:
         """Runs one above the other that no edge parts: each pair once for each stretch that they share."""
-        joined = np.zeros_like(self.thin)
-        joined[:-1] = self.thin[:-1] & self.thin[1:] & ~self.edges.lower[:-1]
-        first = joined.copy()
-        first[:, 1:] &= ~joined[:, :-1] | self.begins[:, 1:]
-        first[:-1, 1:] |= joined[:-1, 1:] & self.begins[1:, 1:]
-        places = np.flatnonzero(first)
-        yield self.of(places), self.of(places + self.window.width)
+        joined = self.thin[:-1] & self.thin[1:] & self.edges.down[:-1]
+        first = joined & (~bits.moved(joined, 1) | self.begins[:-1] | self.begins[1:])
+        places = bits.places(first)
+        yield self.of(places), self.of(places + self.window.pitch)
 
     def tallies(self, runs: Runs) -> Tallies:
         """What is counted of each run."""
-        colour = np.stack([plane[self.starts] for plane in self.window.flat()])
+        at = self.window.samples(self.starts)
+        colour = np.stack([plane[at] for plane in self.window.rows.samples])
         out = Tallies.of_runs(runs, colour)
         out.black = np.where(self.finder.is_black(list(colour)), out.area, 0)
         # The rows above and below the strip may be thin too: nothing is cut off there.
-        cuts = grown_within(~self.thin, self.edges) & self.thin
-        cuts[self.window.first_row] = cuts[self.window.last_row - 1] = False
+        cuts = grown_within(~self.thin & self.edges.inside, self.edges) & self.thin
+        cuts[self.window.rows.first] = cuts[self.window.rows.last - 1] = 0
         count = len(self.starts)
-        out.attached = np.bincount(self.of(np.flatnonzero(cuts)), minlength=count)
-        self.count_edges(out, self.edges.right, self.edges.right_calls, 1)
-        self.count_edges(out, self.edges.lower, self.edges.lower_calls, self.window.width)
+        out.attached = np.bincount(self.of(bits.places(cuts)), minlength=count)
+        beside = self.thin | bits.moved(self.thin, -1)
+        self.count_edges(out, self.edges.right & beside, self.edges.right_calls, (1, 1))
+        beside = self.thin.copy()
+        beside[:-1] |= self.thin[1:]
+        self.count_edges(out, self.edges.lower & beside, self.edges.lower_calls,
+                         (self.window.pitch, self.window.rows.width))
         return out
 
-    def count_edges(self, out: Tallies, edges: Mask, calls: Mask, step: int) -> None:
+    def count_edges(self, out: Tallies, edges: Words, calls: Words, step: tuple[int, int]) -> None:
         """The outline of each run: how much of it calls for a trap, lies beside black, slides, and has the run as
-        its darker side."""
-        count, planes = len(self.starts), self.window.flat()
-        first = np.flatnonzero(edges)
-        first = first[self.flat[first] | self.flat[first + step]]
-        values = [[plane[at] for plane in planes] for at in (first, first + step)]
+        its darker side. `step` is how far the pixel beyond an edge is in the masks, and in the samples."""
+        count = len(self.starts)
+        first = bits.places(edges)
+        at = self.window.samples(first)
+        values = [[plane[place] for plane in self.window.rows.samples] for place in (at, at + step[1])]
         tables = self.finder.densities
         densities = [np.sum([table[value] for table, value in zip(tables, one)], axis=0) for one in values]
-        called = calls.reshape(-1)[first]
+        called = bits.has(calls, first)
         slid = called & (np.minimum(*densities) >= self.finder.rule.sliding_limit * np.maximum(*densities))
-        for side, at in enumerate((first, first + step)):
-            inside = self.flat[at]
-            run = self.of(at[inside])
+        for side, place in enumerate((first, first + step[0])):
+            inside = bits.has(self.thin, place)
+            run = self.of(place[inside])
             darker = called & ~slid & (densities[side] > densities[1 - side])
             beside_black = self.finder.is_black(values[1 - side])
             out.outline += np.bincount(run, minlength=count)

@@ -20,7 +20,11 @@ from itertools import product
 
 import numpy as np
 
-from .strokes import SHARE, SLANT, Box, Ink, Mask, Part, Plane, Rule, edges_of, steps_of
+from . import bits
+from .bits import Words
+from .canvas import Canvas, canvases_of
+from .stroke_runs import Plane
+from .strokes import SHARE, SLANT, Box, Ink, Part, Rule, edges_of, steps_of
 
 # A third may be so many pixels short of a reach.
 SLACK = 0.05
@@ -220,30 +224,49 @@ def own_share(planes: Sequence[Plane], inks: Sequence[Ink], rule: Rule, lines: S
               reaches: Sequence[float]) -> float:
     """The share of the strokes' pixels that no trap changes, with a reach in pixels for each line. Some
     of many parts are measured, evenly spread; 1.0 if there is none."""
-    counted = [(plane, ink) for plane, ink in zip(planes, inks) if ink.counts]
+    counted = [(np.asarray(plane) if isinstance(plane, np.ndarray) else plane, ink)
+               for plane, ink in zip(planes, inks) if ink.counts]
     steps = steps_of([ink for _, ink in counted], rule)
     items = [(part, reach) for line, reach in zip(lines, reaches) for part in line.parts]
-    kept = total = 0
+    alike: dict[tuple[float, bool], list[Part]] = {}
     for part, reach in items[::max(1, len(items) // MOST_MEASURED)]:
-        around = part.box.grown(math.ceil(reach) + 1)
-        rows = slice(max(0, around.upper), around.lower)
-        columns = slice(max(0, around.left), around.right)
-        crops = [np.ascontiguousarray(plane[rows, columns]) for plane, _ in counted]
-        own = np.logical_and.reduce([(255 - crop) // 32 == tint for crop, tint in zip(crops, part.colour)])
-        total += int(own.sum())
-        if not part.lighter:
-            edges = edges_of(crops, steps)
-            own &= ~within_reach(edges.right_calls, edges.lower_calls, reach)
-        kept += int(own.sum())
+        alike.setdefault((reach, part.lighter), []).append(part)
+    page = Box(0, 0, planes[0].shape[1], planes[0].shape[0]) if planes else Box(0, 0, 0, 0)
+    kept = total = 0
+    for (reach, lighter), parts in alike.items():
+        far = math.ceil(reach) + 1
+        for canvas in canvases_of([part.box.grown(far).common(page) for part in parts], far):
+            own, changed = own_pixels(canvas, parts, [plane for plane, _ in counted], steps, 0 if lighter else reach)
+            total += bits.count(own)
+            kept += bits.count(own & ~changed)
     return kept / total if total else 1.0
 
 
-def within_reach(right: Mask, lower: Mask, reach: float) -> Mask:
+def own_pixels(canvas: Canvas, parts: Sequence[Part], planes: Sequence[Plane], steps: Sequence[int],
+               reach: float) -> tuple[Words, Words]:
+    """The pixels of a canvas that have the colours of their parts, and those that traps of a reach change."""
+    copies = [canvas.copied(plane) for plane in planes]
+    inside, own = (bits.empty(canvas.height, canvas.width) for _ in range(2))
+    alike = canvas.filled([1] * len(parts)).view(bool)
+    bits.put(inside, alike)
+    for at, copy in enumerate(copies):
+        alike &= (255 - copy) // 32 == canvas.filled([part.colour[at] for part in parts])
+    bits.put(own, alike)
+    if not reach:
+        return own, bits.empty(canvas.height, canvas.width)
+    edges = edges_of(copies, steps)
+    right, lower = edges.right_calls & inside & bits.moved(inside, -1), edges.lower_calls & inside
+    lower[:-1] &= inside[1:]
+    return own, within_reach(right, lower, reach)
+
+
+def within_reach(right: Words, lower: Words, reach: float) -> Words:
     """The pixels whose middle lies within a reach of the middle of an edge."""
     out = np.zeros_like(right)
     for mask, moves in zip((right, lower), moves_within(reach)):
-        for down, across in moves if mask.any() else ():
-            _or_moved(out, mask, down, across)
+        for down, across in moves:
+            source, target = (mask[:-down], out[down:]) if down > 0 else (mask[-down:], out[:max(0, len(out) + down)])
+            bits.add_moved(target, source, across)
     return out
 
 
@@ -255,12 +278,3 @@ def moves_within(reach: float) -> tuple[tuple[tuple[int, int], ...], tuple[tuple
     moves = [(down, across) for down in range(-far, far + 1) for across in range(-far, far + 1)]
     return (tuple((down, across) for down, across in moves if math.hypot(down, across - 0.5) <= reach),
             tuple((down, across) for down, across in moves if math.hypot(down - 0.5, across) <= reach))
-
-
-def _or_moved(out: Mask, mask: Mask, down: int, across: int) -> None:
-    """Adds a mask that is moved by so many rows and columns."""
-    height, width = out.shape
-    rows, columns = max(0, height - abs(down)), max(0, width - abs(across))
-    top, left = max(0, down), max(0, across)
-    from_top, from_left = max(0, -down), max(0, -across)
-    out[top:top + rows, left:left + columns] |= mask[from_top:from_top + rows, from_left:from_left + columns]
