@@ -43,7 +43,8 @@ def test_inks_are_laid_over_each_other(page: PageFolder) -> None:
 def test_small_before_and_after(page: PageFolder, times: int) -> None:
     """Both small pictures are those that are drawn one by one."""
     painter = picture.Painter(page, True)
-    before, after = painter.small_both(times)
+    parts = [painter.small_both(times, rows) for rows in painter.small_rows(times)]
+    before, after = (numpy.concatenate(one) for one in zip(*parts))
     assert (before == painter.small(painter.before, times)).all() and (after == painter.small(painter.after, times)).all()
     assert times > 7 or (before != after).any()
 

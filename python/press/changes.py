@@ -43,33 +43,52 @@ class Changes:
 
 
 def changes_of(before: Sequence[Array], after: Sequence[Array], times: int, grid: Grid) -> Changes:
-    """What changed between plates (rows × columns, 0 is full ink), band by band. What makes no square at the right or
-    lower edge has no mark."""
-    height, width = before[0].shape
-    added, marks = [0] * len(before), [numpy.zeros(small_shape(before[0], times), dtype=bool) for _ in before]
-    counts = numpy.zeros((-(-height // grid.height), -(-width // grid.width)), dtype="i8")
-    for first, end in bands(height, grid.height):
-        changed = numpy.zeros((end - first, width), dtype=bool)
+    """What changed between plates (rows × columns, 0 is full ink). What makes no square at the right or lower edge has
+    no mark."""
+    return together([changes_in(before, after, times, grid, range(before[0].shape[0]))], before[0], times)
+
+
+@dataclass(frozen=True)
+class Found:
+    """What changed in some rows. `places` are for each plate those of its points on the small picture."""
+
+    added: tuple[int, ...]
+    places: tuple[Array, ...]
+    counts: Array
+
+
+def changes_in(before: Sequence[Array], after: Sequence[Array], times: int, grid: Grid, rows: range) -> Found:
+    """What changed in some rows of plates, band by band."""
+    shape, added = before[0].shape, [0] * len(before)
+    places: list[list[Array]] = [[] for _ in before]
+    counts = grid.of_places(numpy.zeros(0, dtype="i8"), shape)
+    for first, end in bands(rows, grid.height):
+        changed = numpy.zeros((end - first, shape[1]), dtype=bool)
         for number, (old, new) in enumerate(zip(before, after)):
             row, column = more_ink(old[first:end], new[first:end], changed)
             added[number] += len(row)
-            mark(marks[number], (row + first) // times, column // times)
-        some = grid.counted(changed)
-        counts[first // grid.height:first // grid.height + len(some)] += some
+            places[number].append(small_places(row + first, column, shape, times))
+        counts += grid.of_places(numpy.flatnonzero(changed) + first * shape[1], shape)
         release(*before, *after)
-    return Changes(tuple(added), tuple(marks), counts)
+    return Found(tuple(added), tuple(numpy.concatenate(one) for one in places), counts)
 
 
-def small_shape(array: Array, times: int) -> tuple[int, int]:
+def together(parts: Sequence[Found], like: Array, times: int) -> Changes:
+    """What changed in all parts of plates that have the rows and columns of `like`."""
+    added = [sum(counts) for counts in zip(*(one.added for one in parts))]
+    marks = [marked(numpy.concatenate(places), like.shape, times) for places in zip(*(one.places for one in parts))]
+    return Changes(tuple(added), tuple(marks), numpy.sum([one.counts for one in parts], axis=0))
+
+
+def small_shape(shape: tuple[int, ...], times: int) -> tuple[int, int]:
     """The rows and columns of a picture whose points are squares of so many samples."""
-    return max(1, array.shape[0] // times), max(1, array.shape[1] // times)
+    return max(1, shape[0] // times), max(1, shape[1] // times)
 
 
-def bands(height: int, step: int) -> Iterator[tuple[int, int]]:
-    """Bands of a whole number of a grid's rows."""
-    rows = max(1, BAND_ROWS // step) * step
-    for first in range(0, height, rows):
-        yield first, min(height, first + rows)
+def bands(rows: range, step: int) -> Iterator[tuple[int, int]]:
+    """Bands of so many rows of a grid."""
+    for first in rows[::max(1, BAND_ROWS // step) * step]:
+        yield first, min(rows.stop, first + max(1, BAND_ROWS // step) * step)
 
 
 def more_ink(old: Array, new: Array, changed: Array) -> tuple[Array, Array]:
@@ -81,15 +100,23 @@ def more_ink(old: Array, new: Array, changed: Array) -> tuple[Array, Array]:
     return row[more], column[more]
 
 
-def mark(marks: Array, row: Array, column: Array) -> None:
-    """Sets the points that are on the picture."""
-    there = (row < marks.shape[0]) & (column < marks.shape[1])
-    marks[row[there], column[there]] = True
+def small_places(row: Array, column: Array, shape: tuple[int, ...], times: int) -> Array:
+    """The places, counted through a small picture, of the points on it that have some of the samples, each once."""
+    rows, columns = small_shape(shape, times)
+    row, column = row // times, column // times
+    there = (row < rows) & (column < columns)
+    found: Array = numpy.unique(row[there] * columns + column[there])
+    return found
+
+
+def marked(places: Array, shape: tuple[int, ...], times: int) -> Array:
+    """The small picture, an array of bool, with these places set."""
+    out = numpy.zeros(small_shape(shape, times), dtype=bool)
+    out.flat[places] = True
+    return out
 
 
 def made_small(where: Array, times: int) -> Array:
     """An array of bool made small: a point is set if some sample of its square is."""
-    out = numpy.zeros(small_shape(where, times), dtype=bool)
     row, column = numpy.divmod(numpy.flatnonzero(where), where.shape[1])
-    mark(out, row // times, column // times)
-    return out
+    return marked(small_places(row, column, where.shape, times), where.shape, times)

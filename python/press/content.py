@@ -118,10 +118,13 @@ def inside(plates: Plates, within: Rect | None) -> tuple[slice, slice]:
             slice(max(0, int(top)), max(0, int(bottom + 0.5))))
 
 
-def ink_findings(plates: Plates, inks: Sequence[Ink], page: int, limit: float,
-                 within: Rect | None = None) -> Iterator[Finding]:
+def ink_findings(plates: Plates, inks: Sequence[Ink], page: int, limit: float) -> Iterator[Finding]:
     """That a place takes more ink than the limit, a share of full ink."""
-    found = coverage_of(plates, inks, within)
+    yield from coverage_findings(coverage_of(plates, inks), page, limit)
+
+
+def coverage_findings(found: Coverage, page: int, limit: float) -> Iterator[Finding]:
+    """The same, of the ink that a page is known to take."""
     if found.total > limit + 0.005:
         x, y = found.place
         yield placed("total-ink", page, Rect(x, y, x, y), f"{100 * found.total:.0f}% of ink {AT}, and the limit is "

@@ -35,19 +35,20 @@ def spread(plane: Array, radius: int, choose: Callable[..., Any]) -> Array:
 
 def bared(planes: Sequence[Array], densities: Sequence[float], radius: int) -> Array:
     """Where gaps open: an array of bool, rows × columns. The planes have 8 bits, 0 is full ink."""
-    return bared_twice(planes, planes, densities, radius)[0]
+    return bared_twice(planes, planes, densities, radius, range(planes[0].shape[0]))[0]
 
 
-def bared_twice(before: Sequence[Array], after: Sequence[Array], densities: Sequence[float],
-                radius: int) -> tuple[Array, Array]:
-    """Where gaps open before trapping, and after. What did not change is looked at once."""
-    out = [numpy.zeros(before[0].shape, dtype=bool) for _ in range(2)]
-    for rows, columns, around in stretches(before, after, densities, radius):
-        own = tuple(slice(one.start - far.start, one.stop - far.start) for one, far in zip((rows, columns), around))
+def bared_twice(before: Sequence[Array], after: Sequence[Array], densities: Sequence[float], radius: int,
+                rows: range) -> tuple[Array, Array]:
+    """Where gaps open in some rows before trapping, and after. What did not change is looked at once."""
+    out = [numpy.zeros((len(rows), before[0].shape[1]), dtype=bool) for _ in range(2)]
+    for lines, columns, around in stretches(before, after, densities, radius, rows):
+        own = tuple(slice(one.start - far.start, one.stop - far.start) for one, far in zip((lines, columns), around))
         cut = [[numpy.ascontiguousarray(plane[around]) for plane in planes] for planes in (before, after)]
         same = before is after or all(numpy.array_equal(old, new) for old, new in zip(*cut))
         seams = [seams_of(one, densities, radius)[own] for one in (cut[:1] if same else cut)]
-        out[0][rows, columns], out[1][rows, columns] = seams[0], seams[-1]
+        place = slice(lines.start - rows.start, lines.stop - rows.start), columns
+        out[0][place], out[1][place] = seams[0], seams[-1]
     return out[0], out[1]
 
 
@@ -66,17 +67,17 @@ def seams_of(planes: Sequence[Array], densities: Sequence[float], radius: int) -
 
 # Where to look
 
-def stretches(before: Sequence[Array], after: Sequence[Array], densities: Sequence[float],
-              radius: int) -> Iterator[tuple[slice, slice, tuple[slice, slice]]]:
-    """The stretches of a page in which a gap may be: rows, columns, and both with what is needed around.
+def stretches(before: Sequence[Array], after: Sequence[Array], densities: Sequence[float], radius: int,
+              lines: range) -> Iterator[tuple[slice, slice, tuple[slice, slice]]]:
+    """The stretches of some rows of a page in which a gap may be: rows, columns, and both with what is needed around.
 
     A gap is by no more lighter than all inks but one change around it, each by its greatest tint less its least: if
     that is no more than the margin in a block with its neighbours, none can be there."""
     height, width = before[0].shape
     step = max(BLOCK, 2 * radius)
     starts = numpy.arange(0, width, step)
-    for top in range(0, height, BAND_ROWS):
-        rows = slice(top, min(height, top + BAND_ROWS))
+    for top in lines[::BAND_ROWS]:
+        rows = slice(top, min(lines.stop, top + BAND_ROWS))
         around = slice(max(0, top - 2 * radius), min(height, rows.stop + 2 * radius))
         lively = may_part(before, densities, around, starts)
         if after is not before:

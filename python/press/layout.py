@@ -7,7 +7,7 @@ from __future__ import annotations
 import json
 import math
 import re
-from collections.abc import Iterator, Sequence
+from collections.abc import Callable, Iterator, Sequence
 from dataclasses import dataclass, replace
 from typing import Any
 
@@ -28,7 +28,7 @@ from .rects import NOTHING, Rect, without
 from .regions import box_on_page, fewer
 from .settings import Settings
 from .source import BOX_NAMES, PageInfo
-from .strokes import SHARE, Box, find_strokes
+from .strokes import SHARE, Box, Part, find_strokes
 from .strokes import Ink as StrokeInk
 from .strokes import Rule
 from .thin import Line, boxes_by_width, narrow_lines, own_share
@@ -38,6 +38,8 @@ from .zones import IMAGES, LAYERS, OWNER, TRIM, Composed, Layer, Pair, Wanted, b
 BIG = 255
 # The entry of zones.json that says what zones were made of.
 MADE_OF = "made_of"
+# What finds the thin parts of planes, as strokes.find_strokes does.
+FindStrokes = Callable[..., list[Part]]
 # So many holes are cut out of images in which no strokes are looked for.
 MOST_HOLES = 200
 # From this share of a page on it is warned that it is not trapped.
@@ -117,7 +119,7 @@ class Layout:
 
 
 def lay_out(own: Sequence[Statement], info: PageInfo | None, trace: Trace | None, plates: Plates, inks: Sequence[Ink],
-            settings: Settings) -> Layout:
+            settings: Settings, find: FindStrokes = find_strokes) -> Layout:
     """The layout of a page. Without `info`, as for plates of another RIP, the page is what its plates are."""
     size = info.size(settings.box) if info else (plates.width * 72 / plates.resolution,
                                                  plates.height * 72 / plates.resolution)
@@ -130,7 +132,7 @@ def lay_out(own: Sequence[Statement], info: PageInfo | None, trace: Trace | None
     if not settings.thin_zones:
         return finished(compose(own, wanted), None, origins)
     skip = [pixels_of(place, size, plates) for place in pictures_alone(places, over)]
-    lines, parts = strokes_of(plates, inks, rule, skip)
+    lines, parts = strokes_of(plates, inks, rule, skip, find)
     boxes = boxes_by_width(lines, stroke_rule(rule), plates.resolution)
     thin = {width: [points_of(one, plates) for one in some] for width, some in boxes.items()}
     composed = compose(own, replace(wanted, thin=thin))
@@ -280,12 +282,13 @@ def planes_of(plates: Plates, inks: Sequence[Ink]) -> tuple[list[Any], list[Stro
     return planes, [ink for _, ink in kept]
 
 
-def strokes_of(plates: Plates, inks: Sequence[Ink], rule: Parameters, skip: Sequence[Box]) -> tuple[list[Line], int]:
+def strokes_of(plates: Plates, inks: Sequence[Ink], rule: Parameters, skip: Sequence[Box],
+               find: FindStrokes = find_strokes) -> tuple[list[Line], int]:
     """The lines of thin strokes whose traps have to be narrower, and how many thin parts there are."""
     planes, stroke_inks = planes_of(plates, inks)
     if len(planes) < 2 or not rule.enabled:
         return [], 0
-    parts = find_strokes(planes, stroke_inks, stroke_rule(rule), plates.resolution, skip)
+    parts = find(planes, stroke_inks, stroke_rule(rule), plates.resolution, skip)
     return narrow_lines(parts, stroke_rule(rule), plates.resolution), len(parts)
 
 

@@ -1,31 +1,32 @@
 # SPDX-License-Identifier: Apache-2.0
 """One page from a source: what is known of it once it is rendered, and the folder that is made of that."""
+import functools
 import os
-from collections.abc import Iterator, Sequence
-from dataclasses import dataclass, replace
+from collections.abc import Iterator
+from dataclasses import dataclass, field, replace
 from typing import Any
 
 from . import job, keepaway, precedence
-from .content import coverage_of, intent_profile
-from .errors import PressError, UsageError
+from .ahead import Ahead, KnownParts, look_ahead, traced
+from .content import Coverage, coverage_of, intent_profile
+from .crew import ALONE, Crew
+from .errors import UsageError
 from .files import named, size_text
 from .folder import JOB, TABLE, ZONES, PageFolder, PageSource, write_table
 from .icc import need_press_profile
 from .inkedits import InkEdits, edit_plates, pairs_of
 from .inks import Ink, InkBook, folded
 from .job_record import DONE, digest_of
-from .layout import Layout, lay_out, trap_box
+from .layout import FindStrokes, Layout, lay_out, trap_box
 from .names import readable
 from .pairs import directed, pairs_file, read_pairs
-from .plates import Plates, write_pgm
+from .plates import write_pgm
 from .rects import Rect
 from .render import Rendering, render
 from .settings import Settings
 from .source import PageInfo, Source
-from .trace import Trace, trace_page
-
-NOT_LOOKED_FOR = "images are not looked for, and are trapped inside"
-UNREAD = f"mutool cannot read the page, or is at it for too long: {NOT_LOOKED_FOR}"
+from .strokes import find_strokes
+from .trace import Trace
 
 
 @dataclass(frozen=True)
@@ -40,34 +41,38 @@ class Page:
     inks: tuple[Ink, ...]
     trace: Trace | None
     untraced: str | None
+    parts: KnownParts | None = None
+    known_coverage: dict[Rect | None, Coverage] = field(default_factory=dict, compare=False)
 
     @property
     def place(self) -> str:
         """The page as a line names it."""
         return self.source.place(self.number)
 
+    def coverage(self, settings: Settings) -> Coverage:
+        """How much ink the page takes: by plate, and the highest sum within the box in which traps may be."""
+        within = trap_box(self.info, settings)[0]
+        if within not in self.known_coverage:
+            self.known_coverage[within] = coverage_of(self.rendering.plates, self.inks, within)
+        return self.known_coverage[within]
 
-def prepare(source: Source, number: int, settings: Settings, book: InkBook, scratch: str) -> Page:
-    """Renders a page in a scratch folder, and looks at what it paints."""
+
+def prepare(source: Source, number: int, settings: Settings, book: InkBook, scratch: str, crew: Crew = ALONE) -> Page:
+    """Renders a page in a scratch folder, and looks at what it paints, meanwhile if the crew can."""
     info = source.page(number)
     profile = os.path.join(scratch, "intent.icc")
     if settings.output_intent and not settings.icc and intent_profile(source.pdf, profile):
         need_press_profile(profile, f"{source.path}: the profile of its output intent")
         settings = settings.but(icc=profile)
-    rendering = edit_plates(render(source, number, settings, scratch), edits_of(settings, book), scratch,
-                            source.place(number))
+    later = crew.beside(functools.partial(look_ahead, source, number, settings, book, scratch))
+    edits = edits_of(settings, book)
+    rendering = edit_plates(render(source, number, settings, scratch), edits, scratch, source.place(number))
     inks = book.page_inks(rendering.separations, rendering.plates.has_ink())
     pairs = pairs_file(settings, source.path)
     if pairs:
         inks = tuple(directed(inks, read_pairs(pairs)))
-    trace, untraced = None, None
-    if info and (settings.layer or not settings.trap_images):
-        try:
-            trace = trace_page(source, number, settings.time)
-            untraced = None if trace else UNREAD
-        except PressError as refusal:
-            untraced = f"{refusal}: {NOT_LOOKED_FOR}"
-    return Page(source, number, info, rendering, inks, trace, untraced)
+    seen = later.result() if later.is_started else Ahead(*traced(source, number, info, settings))
+    return Page(source, number, info, rendering, inks, seen.trace, seen.untraced, None if edits else seen.parts)
 
 
 def option_edits(settings: Settings) -> InkEdits:
@@ -104,13 +109,10 @@ def layout_of(page: Page, settings: Settings) -> Layout:
     """What is in the page's job before showpage: what the owner sets, and the press room's own zones."""
     own = precedence.own_statements(settings, page.source.path, page.number)
     settings = settings.but(pairs=pairs_file(settings, page.source.path))
-    return lay_out(own, page.info, page.trace, page.rendering.plates, page.inks, settings)
-
-
-def with_coverage(layout: Layout, plates: Plates, inks: Sequence[Ink], within: Rect | None) -> Layout:
-    """The layout, with how much ink the page takes: in per cent by plate, and the highest sum within a box."""
-    found = coverage_of(plates, inks, within)
-    return replace(layout, coverage=tuple(zip((ink.name for ink in inks), found.plates)), total_ink=found.total)
+    find: FindStrokes = find_strokes
+    if page.parts:
+        find = page.parts.of(page.rendering.plates, page.inks)
+    return lay_out(own, page.info, page.trace, page.rendering.plates, page.inks, settings, find)
 
 
 def write_page(page: Page, settings: Settings, folder: str, layout: Layout | None = None) -> PageFolder:
@@ -118,9 +120,10 @@ def write_page(page: Page, settings: Settings, folder: str, layout: Layout | Non
     for name, array in zip(page.rendering.plates.names, page.rendering.plates.arrays):
         write_pgm(os.path.join(folder, name + ".pgm"), array, page.rendering.plates.maxval)
     source = PageSource(os.fsencode(os.path.basename(page.source.path)), page.number, settings.dpi)
-    return write_folder(folder, source, page.inks,
-                        with_coverage(layout or layout_of(page, settings), page.rendering.plates, page.inks,
-                                      trap_box(page.info, settings)[0]))
+    found = page.coverage(settings)
+    coverage = tuple(zip((ink.name for ink in page.inks), found.plates))
+    layout = replace(layout or layout_of(page, settings), coverage=coverage, total_ink=found.total)
+    return write_folder(folder, source, page.inks, layout)
 
 
 def write_folder(folder: str, source: PageSource, inks: tuple[Ink, ...], layout: Layout) -> PageFolder:

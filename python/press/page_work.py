@@ -5,9 +5,10 @@ import os
 import shutil
 import time
 from collections.abc import Iterator, Sequence
-from dataclasses import dataclass
+from dataclasses import dataclass, field
 
 from . import engine, identity, job_record, look, page as pages_of_source, preflight, proof, tiff, unchanged
+from .crew import Budget, Crew
 from .errors import PressError, Status, reason
 from .events import FindingMade, Observer, PageDone, PageFailed, StepDone, StepStarted, Warned
 from .files import disk_use, folder_beside, free_room, is_full
@@ -54,6 +55,11 @@ class PageWork:
     found: list[Finding]
     number: int
     observer: Observer
+    budget: Budget | None = None
+    crew: Crew = field(init=False)
+
+    def __post_init__(self) -> None:
+        self.crew = Crew(self.budget)
 
     @contextlib.contextmanager
     def step(self, what: str, command: str) -> Iterator[None]:
@@ -88,7 +94,7 @@ class PageWork:
         """Renders the page, and checks it."""
         self.refuse()
         self.need_room()
-        page = pages_of_source.prepare(self.source, self.number, self.settings, self.book, scratch)
+        page = pages_of_source.prepare(self.source, self.number, self.settings, self.book, scratch, self.crew)
         for one in preflight.check_page(page, self.settings, self.book, self.job.path).findings:
             self.found.append(one)
             self.observer(FindingMade(one))
@@ -121,19 +127,26 @@ class PageWork:
                 return None
             self.remove_old()
         with self.step("traps", "press-trap"):
-            trapped = engine.trap(made, self.settings)
+            trapped = self.trap(made)
             self.warn("press-trap", trapped.warnings)
         if self.settings.tiff:
             with self.step("TIFF files", "press-tiff"):
                 options = tiff.TiffOptions(channels=self.settings.channels, icc=self.settings.icc,
                                            composite=self.settings.composite, compression=self.settings.compression)
-                tiff.write_tiffs(made, made.file(TIFF), options)
+                tiff.write_tiffs(made, made.file(TIFF), options, self.crew)
         if self.settings.look:
             with self.step("pictures", "press-look"):
                 look.draw_pictures(made)
         if self.settings.proof:
             self.make_part(made)
         return trapped.report
+
+    def trap(self, made: PageFolder) -> engine.Trapped:
+        """Traps the page with the threads that --workers gives, else with the processors that are free."""
+        if self.settings.workers or self.settings.by_page_program:
+            return engine.trap(made, self.settings)
+        with self.crew.threads(engine.USUAL_THREADS) as threads:
+            return engine.trap(made, self.settings.but(workers=threads))
 
     def remove_old(self) -> None:
         """Removes what an earlier run made of the page."""
@@ -158,7 +171,7 @@ class PageWork:
         machine say, the plates are kept."""
         try:
             with self.step("proof", "press-proof"):
-                proof.write_part(made.path)
+                proof.write_part(made.path, self.crew)
         except StepFailed as failed:
             why = f"{failed.command}: {failed.refusal}"
             self.warn("press-all", [f"{self.source.place(self.number)}: no proof is drawn: {why}"])

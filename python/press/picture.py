@@ -117,29 +117,29 @@ class Painter:
 
     def small(self, planes: Sequence[Array], times: int, profile: str | None = None) -> Array:
         """The page made small, each square of samples a point of its mean; by a profile if one is given."""
-        height, step = planes[0].shape[0], times * max(1, BAND_ROWS // times)
-        end = max(1, height // times) * times
         parts = []
-        for start in range(0, end, step):
-            rows = [mean_of(plane[start:min(start + step, end, height)], times) for plane in planes]
-            parts.append(self.by_profile(rows, profile) if profile else self.laid_over(rows))
+        for rows in self.small_rows(times):
+            small = [mean_of(plane[rows.start:rows.stop], times) for plane in planes]
+            parts.append(self.by_profile(small, profile) if profile else self.laid_over(small))
             release(*planes)
         return numpy.concatenate(parts)
 
-    def small_both(self, times: int) -> tuple[Array, Array]:
-        """The page made small before and after trapping. What did not change is drawn once."""
+    def small_rows(self, times: int) -> list[range]:
+        """The rows of bands that can be made small one by one."""
         height, step = self.before[0].shape[0], times * max(1, BAND_ROWS // times)
         end = max(1, height // times) * times
-        before, after = [], []
-        for start in range(0, end, step):
-            rows = slice(start, min(start + step, end, height))
-            old = [mean_of(plane[rows], times) for plane in self.before]
-            new = [small if numpy.array_equal(one[rows], other[rows]) else mean_of(other[rows], times)
-                   for small, one, other in zip(old, self.before, self.after)]
-            before.append(self.laid_over(old))
-            after.append(before[-1] if all(one is other for one, other in zip(old, new)) else self.laid_over(new))
-            release(*self.before, *self.after)
-        return numpy.concatenate(before), numpy.concatenate(after)
+        return [range(start, min(start + step, end, height)) for start in range(0, end, step)]
+
+    def small_both(self, times: int, rows: range) -> tuple[Array, Array]:
+        """A band made small before and after trapping. What did not change is drawn once."""
+        part = slice(rows.start, rows.stop)
+        old = [mean_of(plane[part], times) for plane in self.before]
+        new = [small if numpy.array_equal(one[part], other[part]) else mean_of(other[part], times)
+               for small, one, other in zip(old, self.before, self.after)]
+        before = self.laid_over(old)
+        after = before if all(one is other for one, other in zip(old, new)) else self.laid_over(new)
+        release(*self.before, *self.after)
+        return before, after
 
     def by_profile(self, planes: Sequence[Array], profile: str) -> Array:
         """The light of planes, the process inks by a profile, and each spot by the process inks that look like it."""

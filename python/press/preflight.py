@@ -18,7 +18,7 @@ from .findings import FAULT, NOTE, WARNING, Finding
 from .folder import PageSource
 from .inkedits import twins
 from .inks import Ink, InkBook, Separation, folded, open_book, unsure_lines
-from .layout import box_line, layer_lines, trap_box
+from .layout import box_line, layer_lines
 from .names import MOST_PLATES, PROCESS, job_names, readable
 from .page import Page, layout_of, lost_edits, option_edits, prepare, room_line
 from .pairs import pairs_file, read_pairs
@@ -472,7 +472,7 @@ def content_findings(page: Page, info: PageInfo, settings: Settings) -> Iterator
     """What is found in the content of a page: ink, colours, type, lines and images."""
     plates, inks, number = page.rendering.plates, page.inks, page.number
     step = settings.parameters["step"].number if "step" in settings.parameters else USUAL_STEP
-    yield from content.ink_findings(plates, inks, number, settings.total_ink, trap_box(info, settings)[0])
+    yield from content.coverage_findings(page.coverage(settings), number, settings.total_ink)
     yield from content.untrapped_edges(plates, inks, number, step)
     yield from content.font_findings(page.source.pdf, number, [font for font, _ in page.rendering.fonts])
     if page.trace:

@@ -3,12 +3,14 @@
 import functools
 import json
 import os
-from collections.abc import Iterable, Iterator, Mapping, Sequence
+from collections.abc import Callable, Iterable, Iterator, Mapping, Sequence
+from dataclasses import dataclass
 
 import numpy
 
 from . import gaps
-from .changes import Grid, changes_of, made_small
+from .changes import Changes, Found, Grid, changes_in, marked, small_places, together
+from .crew import ALONE, Crew
 from .engine import Report, read_report
 from .errors import PressError, Status
 from .files import whole_file, write_text
@@ -78,21 +80,21 @@ def parts_with_dots(folders: Mapping[int, str], screened: str | None) -> Iterato
             yield screened_text(folder, reports[number], screened)
 
 
-def write_part(folder: str) -> None:
+def write_part(folder: str, crew: Crew = ALONE) -> None:
     """Writes what a page gives to the sheet of all into its folder."""
     if not os.path.exists(os.path.join(folder, TABLE)):
         raise PressError(Status.NO_PLATES, NO_PLATES, folder)
-    write_text(os.path.join(folder, PART), part_of_page(folder), "replace")
+    write_text(os.path.join(folder, PART), part_of_page(folder, crew), "replace")
 
 
-def part_of_page(folder: str) -> str:
+def part_of_page(folder: str, crew: Crew = ALONE) -> str:
     """A page's part: the one that is there and is not older than the traps, or a new one."""
     path, report = os.path.join(folder, PART), os.path.join(folder, TRAPPED, REPORT)
     if os.path.isfile(path) and os.path.isfile(report) and os.path.getmtime(path) >= os.path.getmtime(report):
         return read_text(path)
     page = PageFolder.read(folder)
     page.need_trapped()
-    return page_text(page)
+    return page_text(page, crew)
 
 
 def write_sheet(path: str, title: str, head: str, parts: Iterable[str]) -> None:
@@ -108,38 +110,79 @@ def write_sheet(path: str, title: str, head: str, parts: Iterable[str]) -> None:
 
 # The pictures of a page
 
+@dataclass(frozen=True)
+class Seen:
+    """What is seen in some rows of a page: how many samples misregistration bares before trapping and after, the points
+    of the small picture where a trap closes some and where some are left, and how many of these each part of the grid
+    has; what trapping changed; and the rows of the small picture before and after."""
+
+    bared: tuple[int, int]
+    closed: Array
+    left: Array
+    counts: Array
+    changes: Found
+    small: tuple[Array, Array]
+
+
 class Sheet:
     """The pictures of one page: `width` is how many samples wide its narrowest traps are, `radius` how far each
     plate is off in the map, in samples, and a point of an overview is a square of `times` samples."""
 
-    def __init__(self, page: PageFolder) -> None:
+    def __init__(self, page: PageFolder, crew: Crew = ALONE) -> None:
         self.page, self.painter, self.width = page, Painter(page, True), trap_width(page)
         self.radius = max(1, int(self.width) // 2)
         self.times = max(1, -(-page.head.width // OVERVIEW), -(-page.head.height // (OVERVIEW * 2)))
-        densities = [float(ink.density) if is_seen(ink.kind) else 0.0 for ink in page.inks]
-        self.bared_before, self.bared_after = gaps.bared_twice(self.painter.before, self.painter.after, densities,
-                                                               self.radius)
-        self.changes = changes_of(self.painter.before, self.painter.after, self.times, GRID)
+        self.densities = [float(ink.density) if is_seen(ink.kind) else 0.0 for ink in page.inks]
+        bands = self.painter.small_rows(self.times)
+        ends = [*(band.start for band in bands[1:]), page.head.height]
+        self.seen = crew.each([functools.partial(self.look_at, band, range(band.start, end))
+                               for band, end in zip(bands, ends)])
+        self.bared_before, self.bared_after = (sum(counts) for counts in zip(*(one.bared for one in self.seen)))
+        self.changes: Changes = together([one.changes for one in self.seen], self.painter.before[0], self.times)
 
-    def small_marks(self, where: Array) -> Array:
-        """Marks on the small picture: a point has one if some sample of it has, grown by a point."""
-        return thickened(made_small(where, self.times), 1)
+    def look_at(self, band: range, rows: range) -> Seen:
+        """What is seen in a band, whose rows make a picture, and in the rows that are left of the page after the last
+        one."""
+        before, after = self.painter.before, self.painter.after
+        old, new = gaps.bared_twice(before, after, self.densities, self.radius, rows)
+        left = numpy.flatnonzero(new) + rows.start * new.shape[1]
+        return Seen((int(old.sum()), len(left)), self.small_places(old & ~new, rows), self.small_places(new, rows),
+                    GRID.of_places(left, before[0].shape), changes_in(before, after, self.times, GRID, rows),
+                    self.painter.small_both(self.times, band))
 
-    def overviews(self) -> tuple[Array, Array, Array, Array]:
-        """Before, after, the traps, and the map."""
-        painter = self.painter
-        before, after = painter.small_both(self.times)
-        traps, bare = pale(before), pale(before)
-        for light, marks in zip(painter.lights, self.changes.marks):
+    def small_places(self, where: Array, rows: range) -> Array:
+        """The points of the small picture that have marked samples of some rows."""
+        row, column = numpy.divmod(numpy.flatnonzero(where), where.shape[1])
+        return small_places(row + rows.start, column, self.painter.before[0].shape, self.times)
+
+    def small_marks(self, places: Sequence[Array]) -> Array:
+        """Marks on the small picture, grown by a point."""
+        return thickened(marked(numpy.concatenate(places), self.painter.before[0].shape, self.times), 1)
+
+    def small(self) -> tuple[Array, Array]:
+        """The small picture before and after."""
+        before, after = (numpy.concatenate(parts) for parts in zip(*(one.small for one in self.seen)))
+        return before, after
+
+    def traps(self, before: Array) -> Array:
+        """The traps on the small picture."""
+        traps = pale(before)
+        for light, marks in zip(self.painter.lights, self.changes.marks):
             traps[thickened(marks, 1)[:traps.shape[0], :traps.shape[1]]] = light
-        bare[self.small_marks(self.bared_before & ~self.bared_after)] = BLUE
-        bare[self.small_marks(self.bared_after)] = RED
-        return before, after, traps, bare
+        return traps
+
+    def map(self, before: Array) -> Array:
+        """The gaps that misregistration opens, on the small picture: those that are closed, and those that are left."""
+        bare = pale(before)
+        bare[self.small_marks([one.closed for one in self.seen])] = BLUE
+        bare[self.small_marks([one.left for one in self.seen])] = RED
+        return bare
 
     def details(self) -> list[Part]:
         """The parts with most traps, and those with most gaps left, as rectangles that do not overlap."""
         found: list[Part] = []
-        for counts, most in ((self.changes.counts, BY_TRAPS), (GRID.counted(self.bared_after), BY_BARED)):
+        left: Array = numpy.sum([one.counts for one in self.seen], axis=0)
+        for counts, most in ((self.changes.counts, BY_TRAPS), (left, BY_BARED)):
             for at in numpy.argsort(counts, axis=None)[::-1][:most].tolist():
                 row, column = divmod(at, counts.shape[1])
                 part = self.part_at(row, column)
@@ -168,10 +211,10 @@ class Sheet:
 
 # The parts of a page's part
 
-def page_text(page: PageFolder) -> str:
+def page_text(page: PageFolder, crew: Crew = ALONE) -> str:
     """The part of a sheet that is a page's."""
-    sheet, report = Sheet(page), read_report(page.path)
-    before, after, traps, bare = sheet.overviews()
+    sheet, report = Sheet(page, crew), read_report(page.path)
+    before, after = sheet.small()
     add_to_json(sheet)
     head = (f"<h2>{escaped(readable(page.source.pdf))}, page {page.source.page}</h2><p>{page.head.width} by "
             f"{page.head.height} samples at {page.source.resolution} pixels per inch; {report.changed:,} samples "
@@ -182,12 +225,17 @@ def page_text(page: PageFolder) -> str:
     zones = table(columns, ([zone[name] for name in columns] for zone in report.zones))
     inks = table(["ink", "in the job", "density", "kind", "plate", "samples changed", "ink added on"],
                  ink_rows(sheet, report))
+    pictures: list[Callable[[], str]] = [
+        lambda: image(sheet.traps(before), "the traps"), lambda: map_text(sheet, before),
+        lambda: thin_text(sheet, before), lambda: slider_text(before, after), lambda: register_text(sheet)]
+    pictures += [functools.partial(plate_text, sheet, at) for at in range(len(page.inks))]
+    traps, bare, thin, slider, register, *plates = crew.each(pictures)
     return "\n".join([
         f'<section class="page" id="page-{page.source.page}" data-changed="{report.changed}">', head,
-        warnings_text(page.path), "<h3>Before and after</h3>", slider_text(before, after), register_text(sheet),
+        warnings_text(page.path), "<h3>Before and after</h3>", slider, register,
         f"<h3>Traps</h3><p>Where ink was added, thickened, in its colour: {legend or 'nowhere'}</p>"
-        f"{image(traps, 'the traps')}", map_text(sheet, bare), plates_text(sheet), "<h3>Inks</h3>", inks,
-        "<h3>Zones</h3>", zones, thin_text(sheet, before), coverage_text(page),
+        f"{traps}", bare, f'<h3>Plates</h3><div class="plates">{"".join(plates)}</div>', "<h3>Inks</h3>", inks,
+        "<h3>Zones</h3>", zones, thin, coverage_text(page),
         f"<h3>The job</h3><pre>{escaped(read_text(page.file(JOB)))}</pre>", "</section>"])
 
 
@@ -195,8 +243,8 @@ def add_to_json(sheet: Sheet) -> None:
     """Adds to report.json how many pixels of gaps misregistration opens."""
     path = sheet.page.file(TRAPPED, JSON)
     text = json.loads(read_text(path) or "{}")
-    text["misregister"] = {"radius": sheet.radius, "bared_before": int(sheet.bared_before.sum()),
-                           "bared_after": int(sheet.bared_after.sum())}
+    text["misregister"] = {"radius": sheet.radius, "bared_before": sheet.bared_before,
+                           "bared_after": sheet.bared_after}
     write_text(path, json.dumps(text, indent=1) + "\n")
 
 
@@ -242,24 +290,22 @@ def canvas(part: Part) -> str:
 
 
 def map_text(sheet: Sheet, picture: Array) -> str:
-    """The map of the gaps that misregistration still opens."""
-    before, after = (int(where.sum()) for where in (sheet.bared_before, sheet.bared_after))
+    """The map of the gaps that misregistration still opens, on the small picture before trapping."""
+    before, after = sheet.bared_before, sheet.bared_after
     radius = f"{sheet.radius} sample" + ("" if sheet.radius == 1 else "s")
     # Two plates that are off each its own way part by twice as much.
     far = (f" That is more than traps of {sheet.width:.2f} samples close everywhere."
            if 0 < sheet.width < 2 * sheet.radius else "")
     return (f"<h3>What misregister still bares</h3><p>{swatch(RED)}a light seam can open here, each plate being off by "
             f"{radius} in both directions: {after:,} samples after trapping, {before:,} before. {swatch(BLUE)}closed "
-            f'by a trap.{far}</p>{image(picture, "a map of what misregister bares")}')
+            f'by a trap.{far}</p>{image(sheet.map(picture), "a map of what misregister bares")}')
 
 
-def plates_text(sheet: Sheet) -> str:
-    """Each trapped plate, small."""
-    small = functools.partial(mean_of, times=max(1, -(-sheet.page.head.width // PLATE_WIDTH)))
-    figures = "".join(f'<figure><img src="{data_uri(small(plane))}" alt=""><figcaption>'
-                      f"{escaped(readable(ink.colorant))}</figcaption></figure>"
-                      for ink, plane in zip(sheet.page.inks, sheet.painter.after))
-    return f'<h3>Plates</h3><div class="plates">{figures}</div>'
+def plate_text(sheet: Sheet, at: int) -> str:
+    """A trapped plate, small."""
+    small = mean_of(sheet.painter.after[at], max(1, -(-sheet.page.head.width // PLATE_WIDTH)))
+    return (f'<figure><img src="{data_uri(small)}" alt=""><figcaption>'
+            f"{escaped(readable(sheet.page.inks[at].colorant))}</figcaption></figure>")
 
 
 def thin_text(sheet: Sheet, picture: Array) -> str:

@@ -20,6 +20,8 @@ from .source import Source, complaint, ghostscript
 BOX_OPTIONS: dict[str, list[str]] = {
     "media": [], "crop": ["-dUseCropBox"], "bleed": ["-dUseBleedBox"], "trim": ["-dUseTrimBox"], "art": ["-dUseArtBox"]}
 FULL = 32_760
+# Ghostscript's planes are called page(NAME).tif, and this has what it prints of them, which it does as it begins them.
+DRAWN, ERRORS = "page", "gs.err"
 # What Ghostscript prints about a font that it looks for itself, of a font of CJK too, and about the file that it takes.
 LOADED = re.compile(r"^Loading (?:font (\S+) \(or substitute\)|CIDFont (\S+) substitute) from (?:.*/)?([^/\n]+)$",
                     re.MULTILINE)
@@ -48,17 +50,18 @@ def render(source: Source, page: int, settings: Settings, folder: str) -> Render
     # Ghostscript 10.00 leaves the plates of spots blank on a page with transparency that it draws without bands.
     words = ["-dBATCH", "-dPDFSTOPONERROR", "-sDEVICE=tiffsep", "-dMaxBitmap=0", f"-r{settings.dpi}",
              "-sCompression=none", "-dMaxSpots=60", "-dPrintSpotCMYK", f"-dFirstPage={page}", f"-dLastPage={page}",
-             "-sOutputFile=page.tif", *BOX_OPTIONS[settings.box]]
+             f"-sOutputFile={DRAWN}.tif", *BOX_OPTIONS[settings.box]]
     name = "plain.pdf" if settings.keep_cmyk else "in.pdf"
     if settings.keep_cmyk:
         write_plain(source.pdf, os.path.join(folder, name), source.path)
     else:
         link(source.pdf, folder, name)
     words += profile_words(settings.icc, folder)
-    done = ghostscript(folder, [*words, name], settings.time, source.place(page))
+    with open(os.path.join(folder, ERRORS), "w+b") as errors:
+        done = ghostscript(folder, [*words, name], settings.time, source.place(page), errors)
     if done.returncode != 0:
         raise PressError(Status.PDF, f"Ghostscript cannot read it: {complaint(done)}", source.place(page))
-    separations = separations_in(folder, done)
+    separations = separations_in(folder, done.stdout + b"\n" + done.stderr)
     if separations is None:
         raise PressError(Status.PDF, "Ghostscript made no page of it", source.place(page))
     try:
@@ -67,7 +70,7 @@ def render(source: Source, page: int, settings: Settings, folder: str) -> Render
         # Ghostscript does not notice that a disk is full.
         need_room(folder, "Ghostscript drew")
         raise PressError(Status.PDF, "Ghostscript did not write the plates whole", source.place(page)) from fault
-    os.remove(os.path.join(folder, "page.tif"))
+    os.remove(os.path.join(folder, DRAWN + ".tif"))
     plates = Plates(tuple(one.name for one in separations), arrays, 255, settings.dpi)
     return Rendering(page, tuple(separations), plates, repairs_in(done), fonts_in(done))
 
@@ -90,20 +93,20 @@ def profile_words(profile: str | None, folder: str) -> list[str]:
 
 def plane(folder: str, one: Separation) -> Array:
     """The raster of a separation: rows × columns, 0 is full ink."""
-    path = os.path.join(os.fsencode(folder), b"page(" + one.suffix + b").tif")
+    path = os.path.join(os.fsencode(folder), os.fsencode(DRAWN) + b"(" + one.suffix + b").tif")
     array: Array = tifffile.memmap(os.fsdecode(path), mode="r")
     return array
 
 
-def separations_in(folder: str, done: "subprocess.CompletedProcess[bytes]") -> list[Separation] | None:
-    """The colorants that Ghostscript made files of: the process inks, and then the spots by their names."""
-    printed = re.findall(rb'%%SeparationColor: "(.*?)" 100% ink = (\d+) (\d+) (\d+) (\d+) CMYK',
-                         done.stdout + b"\n" + done.stderr, re.DOTALL)
+def separations_in(folder: str, text: bytes) -> list[Separation] | None:
+    """The colorants that Ghostscript made files of: the process inks, and then the spots by their names. `text` is what
+    it printed."""
+    printed = re.findall(rb'%%SeparationColor: "(.*?)" 100% ink = (\d+) (\d+) (\d+) (\d+) CMYK', text, re.DOTALL)
     looks = {name: look_of(parts) for name, *parts in printed}
     process = [name.encode() for name in PROCESS]
     suffixes = {}
     for file in os.listdir(os.fsencode(folder)):
-        if file.startswith(b"page(") and file.endswith(b").tif"):
+        if file.startswith(os.fsencode(DRAWN) + b"(") and file.endswith(b").tif"):
             suffixes[colorant_in(urllib.parse.unquote_to_bytes(file[5:-5]), [*process, *looks])] = file[5:-5]
     if any(name not in suffixes for name in process):
         return None

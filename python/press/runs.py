@@ -5,13 +5,12 @@ import contextlib
 import multiprocessing
 import multiprocessing.connection
 import os
-import signal
 import traceback
 from collections.abc import Iterator, Sequence
 from dataclasses import dataclass
 from multiprocessing.connection import Connection
 
-from . import engine, identity, job_record, pdf_beside, preflight, proof, tools
+from . import crew, engine, identity, job_record, pdf_beside, preflight, proof, tools
 from .errors import PressError, Status
 from .events import (Event, FindingMade, Observer, PageDone, PageFailed, RunDone, RunStarted, StepStarted, Warned,
                      silent)
@@ -78,7 +77,9 @@ def work(todo: PageWork, end: Connection, parent: int) -> None:
     tools.begin_process(parent)
     todo.observer = end.send
     try:
-        end.send(todo.do())
+        with todo.crew:
+            done = todo.do()
+        end.send(done)
     except OSError as fault:
         why = f"press-all: {refusal_of(fault, todo.job.page(todo.number))}"
         end.send(PageFailed(todo.number, Status.OUTPUT, why))
@@ -89,14 +90,6 @@ def work(todo: PageWork, end: Connection, parent: int) -> None:
     except Exception as fault:  # pylint: disable=broad-exception-caught
         traceback.print_exc()
         end.send(PageFailed(todo.number, Status.PROGRAM, f"press-all: {type(fault).__name__}: {fault}"))
-
-
-def lost_line(code: int | None) -> str:
-    """Why a process ended without a word."""
-    if code is not None and code < 0:
-        short = ": was there not enough memory?" if -code == signal.SIGKILL else ""
-        return f"press-all: the page's process was ended by {signal.Signals(-code).name}{short}"
-    return f"press-all: the page's process ended with {code}"
 
 
 class Workers:
@@ -129,7 +122,7 @@ class Workers:
                 process.join()
                 if number in self.ends:
                     continue
-                event = PageFailed(number, Status.OUTPUT, lost_line(process.exitcode))
+                event = PageFailed(number, Status.OUTPUT, f"press-all: {crew.lost_line(process.exitcode)}")
             if isinstance(event, (PageDone, PageFailed)):
                 self.ends[number] = event
             self.observer(event)
@@ -142,14 +135,19 @@ class Workers:
             process.join()
 
 
-def do_pages(todo: Sequence[PageWork], jobs: int, observer: Observer) -> dict[int, PageDone | PageFailed]:
-    """Does pages, so many at once. Answers how each ended, in their order."""
+def do_pages(todo: Sequence[PageWork], jobs: int, budget: crew.Budget,
+             observer: Observer) -> dict[int, PageDone | PageFailed]:
+    """Does pages, so many at once. What pages hold no more of the processors the others may take. Answers how each
+    ended, in their order."""
     workers, waiting = Workers(observer), list(todo)
     try:
         while waiting or workers.active:
             while waiting and len(workers.active) < jobs:
                 workers.start(waiting.pop(0))
+            before = len(workers.active)
             workers.hear()
+            if not waiting:
+                budget.give(max(0, min(before, crew.processors()) - len(workers.active)))
     finally:
         workers.stop()
     for one in todo:
@@ -203,14 +201,22 @@ def run(path: str, out: str, settings: Settings = Settings(), pages: Sequence[in
         job.make()
         with page_locks(job, pages):
             begin(job, given, source.count, settings, pages)
-            todo = [PageWork(given, source, settings, book, job, list(found), number, silent) for number in numbers]
-            ends = finish(given, todo, do_pages(todo, settings.jobs, tell), tell)
+            with contextlib.closing(budget_of(settings, len(numbers))) as budget:
+                todo = [PageWork(given, source, settings, book, job, list(found), number, silent, budget)
+                        for number in numbers]
+                ends = finish(given, todo, do_pages(todo, settings.jobs, budget, tell), tell)
             no_pdf = make_pdf(source, out, settings, observer) if settings.pdf and not is_one_of_many() else None
             if settings.proof and not is_one_of_many():
                 make_sheet(out, observer)
     result = RunResult(ends, tuple(findings), no_pdf)
     observer(RunDone(result.failed))
     return result
+
+
+def budget_of(settings: Settings, pages: int) -> crew.Budget:
+    """The processors that the pages of a run may use beside one for each that is at work."""
+    share = crew.share_of(os.environ[crew.AT_ONCE]) if crew.AT_ONCE in os.environ else crew.processors()
+    return crew.Budget(share - min(settings.jobs, pages))
 
 
 def begin(job: JobFolder, given: identity.Input, count: int, settings: Settings, pages: Sequence[int]) -> None:

@@ -8,7 +8,7 @@ import re
 import subprocess
 from collections.abc import Iterator, Mapping
 from dataclasses import dataclass, field
-from typing import Any
+from typing import Any, BinaryIO
 
 import pikepdf
 
@@ -135,18 +135,23 @@ class Source:
 
 # Ghostscript
 
-def ghostscript(folder: str, words: list[str], seconds: float | None,
-                place: str) -> "subprocess.CompletedProcess[bytes]":
+def ghostscript(folder: str, words: list[str], seconds: float | None, place: str,
+                errors: BinaryIO | None = None) -> "subprocess.CompletedProcess[bytes]":
     """Runs Ghostscript in a folder, for so many seconds at most. Its options from the environment, trapping of
-    its own among them, are kept out; its temporary files are in the folder too."""
+    its own among them, are kept out; its temporary files are in the folder too. What it prints on standard error goes
+    into the file `errors` at once, if there is one."""
     outside = {name: value for name, value in os.environ.items() if name not in ("GS_OPTIONS", "GS_DEVICE")}
     outside["TMPDIR"] = os.path.abspath(folder)
     try:
-        done = tools.run([tools.tool("gs"), "-dSAFER", "-dNOPAUSE", *words], seconds=seconds, cwd=folder, env=outside)
+        done = tools.run([tools.tool("gs"), "-dSAFER", "-dNOPAUSE", *words], seconds=seconds, cwd=folder, env=outside,
+                         stderr=errors or subprocess.PIPE)
     except subprocess.TimeoutExpired as fault:
         raise PressError(Status.PDF, f"Ghostscript is at it for more than {seconds} s (--time)", place) from fault
     if done.returncode != 0:
         need_room(folder, "Ghostscript drew")
+    if errors:
+        errors.seek(0)
+        done.stderr = errors.read()
     return done
 
 

@@ -2,6 +2,7 @@
 """TIFF files of a page: a file for each separation, as Ghostscript's tiffsep names them, and on request one of all inks
 and a picture; and plates from separations of another RIP. tifffile writes what has pages."""
 import contextlib
+import functools
 import os
 import urllib.parse
 import zlib
@@ -14,6 +15,7 @@ import tifffile
 from PIL import Image, UnidentifiedImageError
 
 from . import picture
+from .crew import ALONE, Crew
 from .errors import PressError, Status, UsageError, reason
 from .files import folder_beside, head_of, named
 from .folder import PageFolder
@@ -49,9 +51,9 @@ class TiffOptions:
     compression: str = "lzw"
 
 
-def write_tiffs(page: PageFolder, out: str, options: TiffOptions) -> None:
-    """Writes the TIFF files of a page into the folder `out`, which is made if it is not there.
-    Files of these names are replaced when all are written."""
+def write_tiffs(page: PageFolder, out: str, options: TiffOptions, crew: Crew = ALONE) -> None:
+    """Writes the TIFF files of a page into the folder `out`, which is made if it is not there, several separations at
+    once if the crew can. Files of these names are replaced when all are written."""
     if options.trapped:
         page.need_trapped()
     if page.head.maxval not in MAXVALS:
@@ -67,8 +69,9 @@ def write_tiffs(page: PageFolder, out: str, options: TiffOptions) -> None:
     plates = page.plates(options.trapped)
     with folder_beside(out, inside=True) as made:
         inside = os.path.join(os.fsencode(made), name)
-        for ink, array in zip(page.inks, plates.arrays):
-            write_separation(inside + b"(" + ink.suffix + b").tif", array, page.source.resolution, options.compression)
+        crew.each([functools.partial(write_separation, inside + b"(" + ink.suffix + b").tif", array,
+                                     page.source.resolution, options.compression)
+                   for ink, array in zip(page.inks, plates.arrays)])
         if options.composite or options.channels:
             write_composite(inside + b".tif", page.inks, plates, options.channels)
             picture.write_overview(inside + b".png", page, options.trapped, options.icc)
