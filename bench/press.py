@@ -6,7 +6,8 @@
 
 The pages are those of FILE over and over, of the label of `examples/label` where none is named, with the tables of inks and the zones
 that lie beside it. It prints what a page took of a processor, pages an hour a processor, the most memory that all processes had at
-once, each page that is shared counted once, and what OUT takes on the disk. Any other option is handed to `press/farm`.
+once, each page that is shared counted once, and what OUT takes on the disk. Any other option is handed to `press/farm`. The python3 that runs this script is first
+on the PATH of all commands, and its modules are compiled as an installation has them.
 """
 import argparse
 import os
@@ -21,6 +22,8 @@ from timing import TOP
 
 LABEL = os.path.join(TOP, "examples", "label", "label.pdf")
 LOOK_SECONDS = 0.5
+ENVIRONMENT = {**os.environ, "PATH": os.path.dirname(sys.executable) + ":" + os.environ["PATH"]}
+ENVIRONMENT.pop("PYTHONDONTWRITEBYTECODE", None)
 
 
 def make_book(source, pages, folder):
@@ -74,7 +77,7 @@ class Watch(threading.Thread):
 def run(command):
     """Runs it in a session of its own. Answers its status, the seconds that passed, those of processors, and its most bytes."""
     start = time.perf_counter()
-    child = subprocess.Popen(command, stdout=subprocess.DEVNULL, start_new_session=True)
+    child = subprocess.Popen(command, env=ENVIRONMENT, stdout=subprocess.DEVNULL, start_new_session=True)
     watch = Watch(child.pid)
     watch.start()
     _, status, used = os.wait4(child.pid, 0)

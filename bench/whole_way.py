@@ -11,6 +11,9 @@ that is mapped is not counted as read), and the most memory that all processes h
 once. All rows are measured one after the other in the same run, in a folder in memory; of several runs the least CPU time is printed,
 with the rest of that run. On a machine with other work the multiples say more than the seconds.
 
+Commands are started by the python3 that runs this script, which is first on their PATH, and with its modules compiled as an
+installation has them: a wrapper in its place, or modules that are compiled at each start, would be counted at each start.
+
 --only prints the rows whose names have TEXT in them. --farm also measures press/farm on so many pages of the label. Processes are
 counted in a run of their own by strace, if it is installed.
 """
@@ -33,6 +36,9 @@ from timing import TOP
 GHOSTSCRIPT = ["gs", "-q", "-dSAFER", "-dBATCH", "-dNOPAUSE", "-sDEVICE=tiffsep", "-sCompression=none", "-r600"]
 LABEL = os.path.join(TOP, "examples", "label", "label.pdf")
 LOOK_SECONDS = 0.02
+# The environment of all commands.
+ENVIRONMENT = {**os.environ, "PATH": os.path.dirname(sys.executable) + ":" + os.environ["PATH"]}
+ENVIRONMENT.pop("PYTHONDONTWRITEBYTECODE", None)
 HEAD = "%-46s %7s %6s %7s %6s %8s %8s %7s" % ("", "CPU s", "times", "wall s", "procs", "read MB", "wrote MB", "peak MB")
 
 
@@ -85,7 +91,8 @@ def bytes_of(process):
 def measured(words, folder):
     """Runs a command once in a session of its own."""
     start = time.perf_counter()
-    child = subprocess.Popen(words, cwd=folder, stdout=subprocess.DEVNULL, stderr=subprocess.PIPE, start_new_session=True)
+    child = subprocess.Popen(words, cwd=folder, env=ENVIRONMENT, stdout=subprocess.DEVNULL, stderr=subprocess.PIPE,
+                             start_new_session=True)
     memory = Memory(child.pid)
     memory.start()
     complaint = child.stderr.read()
@@ -107,7 +114,7 @@ def processes_of(words, folder):
         return None
     with tempfile.NamedTemporaryFile("r", encoding="utf-8", errors="replace") as log:
         subprocess.run(["strace", "-f", "-qq", "--seccomp-bpf", "-e", "trace=clone,clone3,fork,vfork", "-o", log.name, *words],
-                       cwd=folder, check=True, stdout=subprocess.DEVNULL, stderr=subprocess.DEVNULL)
+                       cwd=folder, env=ENVIRONMENT, check=True, stdout=subprocess.DEVNULL, stderr=subprocess.DEVNULL)
         return 1 + sum("CLONE_THREAD" not in line and "resumed" not in line and "(" in line for line in log)
 
 

@@ -2,18 +2,18 @@
 """Many pages at once by GNU parallel, on this machine or on several: each page is a run of press/all."""
 import contextlib
 import os
-import re
 import selectors
 import shlex
 import subprocess
 import tempfile
 import time
-from collections.abc import Iterator, Sequence
+from collections.abc import Iterator, Mapping, Sequence
 from dataclasses import dataclass, replace
 
-from . import engine, farm_hosts, farm_record, identity, preflight, tools
+from . import crew, engine, farm_hosts, farm_record, identity, preflight, tools
 from .errors import PressError, Status
 from .farm_log import LOG, amend_log, logged, logged_done, missing, why_lost
+from .farm_slots import free_memory, page_line, slots
 from .files import LOCK, head_of, locked, scratch_folder, size_text, sweep, temporary_name
 from .findings import WARNING, refusal_for
 from .folder import JobFolder
@@ -23,7 +23,7 @@ from .pdf_beside import write_for
 from .printing import FarmLines, end_line
 from .proof import write_sheet_of_all
 from .recorded import words_from
-from .runs import HELD
+from .runs import HELD, Opened
 from .settings import Settings
 from .source import Source, open_source
 
@@ -32,7 +32,7 @@ USUAL_SECONDS = 600
 LATE_SECONDS = 60
 # What of the environment a page has on another machine too. The shell is one that is everywhere: without one,
 # parallel takes the one that a variable there names, and does nothing if there is no such variable.
-FOR_PAGES, PAGE_SHELL = ("TRAP_BIN", HELD, "PRESS_HOUSE"), "/bin/sh"
+FOR_PAGES, PAGE_SHELL = ("TRAP_BIN", HELD, "PRESS_HOUSE", crew.AT_ONCE), "/bin/sh"
 # What a page takes beside the table: Ghostscript, and Python over the plates.
 OWN_BYTES = 300_000_000
 HEAR_SECONDS = 0.5
@@ -54,13 +54,6 @@ class Farm:
     again: bool = False
 
 
-def free_memory() -> int | None:
-    """The bytes of memory that this machine has to spare."""
-    with open("/proc/meminfo", encoding="ascii") as file:
-        found = re.search(r"^MemAvailable:\s+(\d+) kB", file.read(), re.MULTILINE)
-    return int(found.group(1)) * 1024 if found else None
-
-
 def page_memory(source: Source, settings: Settings, pages: Sequence[int]) -> int:
     """The bytes of memory that the largest page takes, each of its inks having a plate."""
     most = 0
@@ -75,28 +68,26 @@ def page_memory(source: Source, settings: Settings, pages: Sequence[int]) -> int
 
 @dataclass(frozen=True)
 class Plan:
-    """The pages to make, how many the file has, and the bytes of memory that the largest takes."""
+    """The file, the pages to make, and the bytes of memory that the largest takes."""
 
+    source: Source
     pages: list[int]
-    count: int
     need: int
-    converted: bool
 
 
-def look(farm: Farm, progress: FarmLines) -> Plan:
-    """Checks the whole file before any page is rendered."""
-    with scratch_folder() as scratch:
-        source = open_source(farm.path, scratch, farm.settings.time)
-        pages = list(farm.pages) or list(range(1, source.count + 1))
-        found = preflight.check_file(source, farm.settings, open_book(farm.settings, farm.path), pages)
-        of_file = [one for one in found if one.page is None]
-        for one in of_file:
-            if one.level == WARNING:
-                progress.warn(f"{farm.path}: {one.text}")
-        refusal = refusal_for(farm.path, of_file, farm.settings.strict)
-        if refusal:
-            raise refusal
-        return Plan(pages, source.count, page_memory(source, farm.settings, pages), source.converted)
+def look(farm: Farm, progress: FarmLines, scratch: str) -> Plan:
+    """Checks the whole file, which is open in a scratch folder, before any page is rendered."""
+    source = open_source(farm.path, scratch, farm.settings.time)
+    pages = list(farm.pages) or list(range(1, source.count + 1))
+    found = preflight.check_file(source, farm.settings, open_book(farm.settings, farm.path), pages)
+    of_file = [one for one in found if one.page is None]
+    for one in of_file:
+        if one.level == WARNING:
+            progress.warn(f"{farm.path}: {one.text}")
+    refusal = refusal_for(farm.path, of_file, farm.settings.strict)
+    if refusal:
+        raise refusal
+    return Plan(source, pages, page_memory(source, farm.settings, pages))
 
 
 def how_many(farm: Farm, need: int, pages: int, progress: FarmLines) -> str:
@@ -133,25 +124,24 @@ def follow(child: "subprocess.Popen[bytes]", progress: FarmLines) -> int:
     return child.wait()
 
 
-def parallel_words(farm: Farm, jobs: str, need: int) -> list[str]:
-    """GNU parallel's arguments; what the user has set for it elsewhere is kept out. It knows the memory of this
-    machine alone."""
+def parallel_words(farm: Farm, jobs: str) -> list[str]:
+    """GNU parallel's arguments; what the user has set for it elsewhere is kept out."""
     words = [tools.tool("parallel"), "--plain", "--null", "--line-buffer", "--termseq", "TERM,60000,KILL,25",
              "--joblog", os.path.join(farm.out, LOG), "--jobs", jobs]
     for name in FOR_PAGES:
         words += ["--env", name]
-    words += ["--sshlogin", farm.hosts] if farm.hosts else ["--memfree", f"{max(1, need // 2_000_000)}M"]
+    words += ["--sshlogin", farm.hosts] if farm.hosts else []
     return words + ["--resume-failed"] * farm.again
 
 
-def page_commands(farm: Farm, pages: Sequence[int], is_json: bool) -> Iterator[str]:
+def page_commands(farm: Farm, pages: Sequence[int], is_json: bool, scratch: str) -> Iterator[str]:
     """What is done for each page, for a shell and in this folder; nothing in it is parallel's to fill in,
-    whatever a file is called."""
+    whatever a file is called. The process that makes pages on this machine listens in the scratch folder."""
     own = ["--strict"] * farm.settings.strict + ["--json"] * is_json
     for page in pages:
         words = [os.path.join(tools.PRESS, "all"), f"--page={page}", f"--time={farm.settings.time}", *own,
                  *farm.words, "--", farm.path, farm.out]
-        yield f"cd {shlex.quote(os.getcwd())} && exec {shlex.join(words)}"
+        yield f"cd {shlex.quote(os.getcwd())} || exit; {page_line(scratch, words)}"
 
 
 def go_on(farm: Farm) -> Farm:
@@ -190,18 +180,18 @@ def begin_log(farm: Farm, pages: list[int]) -> list[int]:
     return pages
 
 
-def environment_of(out: str) -> dict[str, str]:
-    """The environment of parallel."""
+def environment_of(out: str, jobs: str = "") -> dict[str, str]:
+    """The environment of parallel, which makes so many pages at once on a machine."""
     usual = {"HOME": os.path.expanduser("~"), "TRAP_BIN": "", "PRESS_HOUSE": ""}
-    return {**usual, **os.environ, HELD: os.path.realpath(out), "PARALLEL_SHELL": PAGE_SHELL}
+    return {**usual, **os.environ, HELD: os.path.realpath(out), crew.AT_ONCE: jobs, "PARALLEL_SHELL": PAGE_SHELL}
 
 
-def hand_out(words: Sequence[str], commands: Iterator[str], out: str, progress: FarmLines) -> int:
+def hand_out(words: Sequence[str], commands: Iterator[str], environment: Mapping[str, str], progress: FarmLines) -> int:
     """Runs parallel over the pages. Answers its status."""
     with tempfile.TemporaryFile() as file:
         file.write(b"".join(os.fsencode(command) + b"\0" for command in commands))
         file.seek(0)
-        with tools.running(words, stdin=file, env=environment_of(out)) as child:
+        with tools.running(words, stdin=file, env=environment) as child:
             return follow(child, progress)
 
 
@@ -224,18 +214,24 @@ def run_farm(farm: Farm, progress: FarmLines) -> Status:
     head_of(farm.path)
     farm = go_on(farm) if farm.again else farm
     engine.trapping_program(farm.settings)
-    given, plan = identity.Input.take(farm.path), look(farm, progress)
-    tools.tool("parallel")
+    with scratch_folder() as scratch:
+        given, plan = identity.Input.take(farm.path), look(farm, progress, scratch)
+        tools.tool("parallel")
+        return run_plan(farm, given, plan, progress)
+
+
+def run_plan(farm: Farm, given: identity.Input, plan: Plan, progress: FarmLines) -> Status:
+    """Does the pages that are planned."""
     job = JobFolder(farm.out)
     job.make()
     with locked(os.path.join(farm.out, LOCK), farm.out, "press-farm"):
         sweep(farm.out)
         farm = with_hosts(farm, progress)
         if not farm.again:
-            identity.claim(job, given.file, plan.count, farm.settings, farm.pages)
+            identity.claim(job, given.file, plan.source.count, farm.settings, farm.pages)
             farm_record.note_pages(farm.out, farm.pages)
-        progress.begin(plan.pages, plan.count, plan.converted)
-        has_failed = make_pages(farm, plan, progress)
+        progress.begin(plan.pages, plan.source.count, plan.source.converted)
+        has_failed = make_pages(farm, given, plan, progress)
         line = given.changed_line()
         if line:
             for failed in identity.fail_mixed(job, sorted(set(plan.pages) - missing(farm.out, plan.pages)), line):
@@ -249,12 +245,15 @@ def run_farm(farm: Farm, progress: FarmLines) -> Status:
     return Status.PAGES_FAILED if has_failed or line or not has_pdf else Status.DONE
 
 
-def make_pages(farm: Farm, plan: Plan, progress: FarmLines) -> bool:
+def make_pages(farm: Farm, given: identity.Input, plan: Plan, progress: FarmLines) -> bool:
     """Makes the pages that are left to do. Answers whether some failed."""
     todo = begin_log(farm, plan.pages)
     progress.total = len(todo)
-    words = parallel_words(farm, how_many(farm, plan.need, len(todo), progress), plan.need)
-    status = hand_out(words, page_commands(farm, plan.pages, progress.is_json), farm.out, progress)
+    jobs, scratch = how_many(farm, plan.need, len(todo), progress), plan.source.folder
+    words, environment = parallel_words(farm, jobs), environment_of(farm.out, jobs)
+    opened = Opened(given, plan.source, farm.settings, open_book(farm.settings, farm.path))
+    with slots(opened, environment, plan.need // 2):
+        status = hand_out(words, page_commands(farm, plan.pages, progress.is_json, scratch), environment, progress)
     lost = lost_pages(farm, plan.pages, todo, progress)
     for page, why in lost.items():
         progress.page(f"page {page}: failed: {why} (--again does the page)")

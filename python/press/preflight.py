@@ -207,7 +207,7 @@ def statement_findings(source: Source, settings: Settings, book: InkBook, pages:
         # Pages of the same inks and zones have the same job here, which is checked once.
         if (written.text, last) not in judged:
             judged.add((written.text, last))
-            yield from job_findings(written, inks, last)
+            yield from job_findings(source, written, inks, last)
 
 
 def zones_findings(path: str, text: bytes, page: int | None) -> Iterator[Finding]:
@@ -231,10 +231,14 @@ def page_inks(source: Source, book: InkBook, page: int) -> tuple[Ink, ...]:
     return book.page_inks(separations, [True] * len(separations))
 
 
-def job_findings(written: job.Job, inks: Sequence[Ink], page: int | None) -> Iterator[Finding]:
-    """Whether the program takes a job."""
+def job_findings(source: Source, written: job.Job, inks: Sequence[Ink], page: int | None) -> Iterator[Finding]:
+    """Whether the program takes a job. It is asked once for each job of a file."""
+    names = tuple(ink.name for ink in inks)
+    if (written.text, names) in source.judged:
+        return
     try:
-        engine.judge(written, [ink.name for ink in inks])
+        engine.judge(written, names)
+        source.judged.add((written.text, names))
     except PressError as refusal:
         if refusal.status == Status.NO_TOOL:
             yield Finding("program", WARNING, None, f"{refusal}: the job is not judged")

@@ -46,6 +46,41 @@ class RunResult:
         return Status.PAGES_FAILED if self.failed or self.no_pdf else Status.DONE
 
 
+@dataclass(frozen=True)
+class Opened:
+    """A file that is open for its pages: as it was when it was opened, and what is known of inks by some settings."""
+
+    given: identity.Input
+    source: Source
+    settings: Settings | None = None
+    book: InkBook | None = None
+
+    def inks(self, settings: Settings) -> InkBook:
+        """What is known of inks by these settings."""
+        return self.book if self.book and self.settings == settings else open_book(settings, self.source.path)
+
+
+# What this process has open already: the file of a farm, of which each page is a run.
+OPEN_HERE: list[Opened] = []
+
+
+@contextlib.contextmanager
+def opened_file(path: str, settings: Settings, given: identity.Input) -> Iterator[Opened]:
+    """A file while it is open. PostScript is converted."""
+    known = next((one for one in OPEN_HERE if one.given is given), None)
+    if known:
+        yield known
+        return
+    with scratch_folder() as scratch:
+        yield Opened(given, open_source(path, scratch, settings.time))
+
+
+def taken(path: str) -> identity.Input:
+    """The file as it is now; one that is open here already is not read again unless it was written to."""
+    known = [one.given for one in OPEN_HERE if one.given.path == path and one.given.is_untouched()]
+    return known[0] if known else identity.Input.take(path)
+
+
 @contextlib.contextmanager
 def page_locks(job: JobFolder, pages: Sequence[int]) -> Iterator[None]:
     """Holds the folder for this run alone. Runs of single pages, as those of a cluster, may work in it beside
@@ -182,11 +217,11 @@ def run(path: str, out: str, settings: Settings = Settings(), pages: Sequence[in
     """Goes the whole way for the pages of a file, all or those that are asked for, counted from 1. Each page
     that is done is in OUT/page-001 and so on. Refuses a file that cannot be read; a page that fails is in
     the result."""
-    given, job = identity.Input.take(path), JobFolder(out)
+    given, job = taken(path), JobFolder(out)
     identity.judge(job, job_record.read_record(out), given.file, settings.force, bool(pages))
     engine.trapping_program(settings)
-    with scratch_folder() as scratch:
-        source = open_source(path, scratch, settings.time)
+    with opened_file(path, settings, given) as opened:
+        source = opened.source
         numbers = list(pages) or list(range(1, source.count + 1))
         findings: list[Finding] = []
 
@@ -196,7 +231,7 @@ def run(path: str, out: str, settings: Settings = Settings(), pages: Sequence[in
             observer(event)
 
         tell(RunStarted(path, tuple(numbers), source.count, source.converted))
-        book = open_book(settings, path)
+        book = opened.inks(settings)
         found = check_file(source, settings, book, numbers, tell)
         job.make()
         with page_locks(job, pages):

@@ -103,6 +103,8 @@ class Source:
     count: int
     known: dict[int, PageInfo | None] = field(default_factory=dict, compare=False)
     without_size: set[int] = field(default_factory=set, compare=False)
+    # The jobs that the trapping program has taken already, each with the names of its plates.
+    judged: set[tuple[bytes, tuple[str, ...]]] = field(default_factory=set, compare=False)
 
     @property
     def pdf(self) -> str:
