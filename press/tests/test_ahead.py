@@ -56,6 +56,12 @@ def test_rows_are_waited_for(tmp_path: Path) -> None:
     assert (plane[0:10] == samples[:10]).all() and (plane[5:40, 3:20] == samples[5:40, 3:20]).all()
     assert ahead.has_begun(str(path)) and (plane[40:90] == samples[40:]).all()
     writer.join()
+    # A plane that is shorter than was expected is refused once Ghostscript has ended.
+    longer = ahead.Growing(os.fsencode(path), (60, 30))
+    (tmp_path / "gs.end").touch()
+    assert (longer[0:50] == samples).all()
+    with pytest.raises(ValueError, match="not what was expected"):
+        print(longer[0:60])
 
 
 @pytest.mark.usefixtures("built")

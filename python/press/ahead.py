@@ -24,7 +24,7 @@ from .names import PROCESS
 from .origins import origins_from
 from .pairs import directed, pairs_file, read_pairs
 from .plates import Array, Plates
-from .render import DRAWN, ERRORS, separations_in
+from .render import DRAWN, ENDED, ERRORS, separations_in
 from .settings import Settings
 from .source import PageInfo, Source
 from .strokes import Box, Part, Rule, find_strokes
@@ -77,6 +77,18 @@ def raster_start(data: bytes) -> int | None:
     return end
 
 
+def has_ended(folder: str) -> bool:
+    """Whether Ghostscript has ended that draws a page in a folder."""
+    return os.path.exists(os.path.join(folder, ENDED))
+
+
+def need_more(may_grow: bool) -> None:
+    """Waits a moment for what is not there. Refuses what will never be."""
+    if not may_grow:
+        raise ValueError("the page is not what was expected of it")
+    time.sleep(LOOK_SECONDS)
+
+
 class Growing:
     """A plane that Ghostscript is writing: rows × columns, 0 is full ink. A row that is not there yet is waited for."""
 
@@ -92,11 +104,13 @@ class Growing:
         return self.rows[where]
 
     def wait(self, count: int) -> None:
-        """Waits until so many rows are written."""
+        """Waits until so many rows are written. Refuses a plane that ends before."""
+        folder = os.fsdecode(os.path.dirname(self.path))
         while len(self.rows) < count:
+            may_grow = not has_ended(folder)
             there = min(self.shape[0], (os.stat(self.path).st_size - self.start) // self.shape[1])
             if there < count:
-                time.sleep(LOOK_SECONDS)
+                need_more(may_grow)
                 continue
             with open(self.path, "rb") as file:
                 mapped = mmap.mmap(file.fileno(), self.start + there * self.shape[1], access=mmap.ACCESS_READ)
@@ -172,10 +186,12 @@ def has_begun(path: str) -> bool:
 def begun(folder: str) -> list[Separation]:
     """The separations of the page that Ghostscript draws in a folder, once it writes rows: it has printed by then what
     it says of them."""
-    def planes() -> list[str]:
-        return [os.path.join(folder, name) for name in os.listdir(folder) if name.startswith(DRAWN + "(")]
-    while len(found := planes()) < len(PROCESS) or not all(map(has_begun, found)):
-        time.sleep(LOOK_SECONDS)
+    while True:
+        may_grow = not has_ended(folder)
+        planes = [os.path.join(folder, name) for name in os.listdir(folder) if name.startswith(DRAWN + "(")]
+        if len(planes) >= len(PROCESS) and all(map(has_begun, planes)):
+            break
+        need_more(may_grow)
     with open(os.path.join(folder, ERRORS), "rb") as file:
         return separations_in(folder, file.read()) or []
 
@@ -184,20 +200,29 @@ def parts_ahead(source: Source, number: int, settings: Settings, book: InkBook, 
                 folder: str) -> KnownParts | None:
     """The thin parts of the planes that Ghostscript writes into a folder."""
     own = precedence.own_statements(settings, source.path, number)
-    pairs, rule = pairs_file(settings, source.path), base_rule(own)
-    settings = settings.but(pairs=pairs)
-    separations = begun(folder)
-    inks = book.page_inks(separations, [True] * len(separations))
-    inks = tuple(directed(inks, read_pairs(pairs))) if pairs else inks
-    width, height = info.samples(settings.box, settings.dpi)
-    planes = [Growing(os.path.join(os.fsencode(folder), os.fsencode(DRAWN) + b"(" + one.suffix + b").tif"),
-                      (height, width)) for one in separations]
-    plates: Any = Plates(tuple(one.name for one in inks), tuple(planes), BIG, settings.dpi)  # type: ignore[arg-type]
-    places, over = image_places(own, info, origins_from(own, info, trace, settings).trace(), settings)
-    skip = [pixels_of(place, info.size(settings.box), plates) for place in pictures_alone(places, over)]
-    known = tuple(map(stroke_ink, inks))
-    if len(planes) < 2 or not rule.enabled:
+    settings, rule = settings.but(pairs=pairs_file(settings, source.path)), base_rule(own)
+    places = image_places(own, info, origins_from(own, info, trace, settings).trace(), settings)
+    inks = inks_ahead(begun(folder), settings, book)
+    plates = growing_plates(inks, info, settings, folder)
+    if len(inks) < 2 or not rule.enabled:
         return None
+    skip = [pixels_of(place, info.size(settings.box), plates) for place in pictures_alone(*places)]
+    known = tuple(map(stroke_ink, inks))
     parts = find_strokes(plates.arrays, [ink for _, ink in known], stroke_rule(rule), settings.dpi, skip)
-    return KnownParts((width, height, settings.dpi), tuple(plane.start for plane in planes), known, stroke_rule(rule),
-                      tuple(skip), tuple(parts))
+    starts = tuple(plane.start for plane in plates.arrays)
+    return KnownParts((plates.width, plates.height, settings.dpi), starts, known, stroke_rule(rule), tuple(skip),
+                      tuple(parts))
+
+
+def inks_ahead(separations: Sequence[Separation], settings: Settings, book: InkBook) -> tuple[Ink, ...]:
+    """The inks of separations, each with ink on its plate."""
+    inks = book.page_inks(separations, [True] * len(separations))
+    return tuple(directed(inks, read_pairs(settings.pairs))) if settings.pairs else inks
+
+
+def growing_plates(inks: Sequence[Ink], info: PageInfo, settings: Settings, folder: str) -> Any:
+    """The plates of a page that Ghostscript writes into a folder."""
+    width, height = info.samples(settings.box, settings.dpi)
+    names = [os.fsencode(DRAWN) + b"(" + ink.suffix + b").tif" for ink in inks]
+    planes: Any = tuple(Growing(os.path.join(os.fsencode(folder), name), (height, width)) for name in names)
+    return Plates(tuple(ink.name for ink in inks), planes, BIG, settings.dpi)

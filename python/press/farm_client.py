@@ -2,10 +2,11 @@
 """Asks the process of a farm on this machine for a page: farm_client.py FOLDER WORD.. The words are those of press/all,
 which takes the place of this script if that process is gone. It is started for each page, as a script, and so imports
 nothing but what is built into Python."""
-import _signal  # type: ignore[import]
-import _socket
 import posix
 import sys
+
+import _signal  # type: ignore[import]
+import _socket
 
 # The socket in the folder; and how many digits say how long the words are.
 SOCKET, DIGITS = "pages", 8

@@ -133,7 +133,9 @@ class Slots:
         """Is the command of a page."""
         for handle, place in zip(page.handles, (1, 2)):
             os.dup2(handle, place)
-        sys.stdout, sys.stderr = open(1, "w", closefd=False), open(2, "w", buffering=1, closefd=False)
+        # pylint: disable-next=consider-using-with
+        sys.stdout, sys.stderr = (open(place, "w", buffering=how, encoding=old.encoding, closefd=False)
+                                  for place, how, old in ((1, -1, sys.stdout), (2, 1, sys.stderr)))
         page.close()
         for key in self.heard.get_map().values():
             if isinstance(key.fileobj, socket.socket):

@@ -313,18 +313,18 @@ def thin_text(sheet: Sheet, picture: Array) -> str:
     thin = read_layout(sheet.page).get("thin")
     if not thin or not thin["zones"]:
         return ""
-    marked, scale = pale(picture), sheet.page.source.resolution / 72 / sheet.times
+    shown, scale = pale(picture), sheet.page.source.resolution / 72 / sheet.times
     height = sheet.page.head.height / sheet.times
     for _, left, lower, right, upper in thin["places"]:
-        rows = max(0, int(height - upper * scale)), min(marked.shape[0] - 1, int(height - lower * scale))
-        columns = max(0, int(left * scale)), min(marked.shape[1] - 1, int(right * scale))
+        rows = max(0, int(height - upper * scale)), min(shown.shape[0] - 1, int(height - lower * scale))
+        columns = max(0, int(left * scale)), min(shown.shape[1] - 1, int(right * scale))
         if rows[0] <= rows[1] and columns[0] <= columns[1]:
-            marked[rows[0]:rows[1] + 1, columns] = BLUE
-            marked[rows, columns[0]:columns[1] + 1] = BLUE
+            shown[rows[0]:rows[1] + 1, columns] = BLUE
+            shown[rows, columns[0]:columns[1] + 1] = BLUE
     before, after = (f"{100 * thin[key]:.0f}%" for key in ("own_before", "own_after"))
     return (f"<h3>Small type and thin lines</h3><p>{thin['parts']:,} thin strokes in {thin['lines']:,} lines have "
             f"narrower traps, in {swatch(BLUE)}zones of their own: {after} of their colour is left. With the page's "
-            f"trap width it would be {before}.</p>{image(marked, 'zones of thin strokes')}")
+            f"trap width it would be {before}.</p>{image(shown, 'zones of thin strokes')}")
 
 
 def coverage_text(page: PageFolder) -> str:

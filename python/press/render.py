@@ -20,8 +20,9 @@ from .source import Source, complaint, ghostscript
 BOX_OPTIONS: dict[str, list[str]] = {
     "media": [], "crop": ["-dUseCropBox"], "bleed": ["-dUseBleedBox"], "trim": ["-dUseTrimBox"], "art": ["-dUseArtBox"]}
 FULL = 32_760
-# Ghostscript's planes are called page(NAME).tif, and this has what it prints of them, which it does as it begins them.
-DRAWN, ERRORS = "page", "gs.err"
+# Ghostscript's planes are called page(NAME).tif. What it prints of them, as it begins them, is in a file; another one
+# is there when it has ended.
+DRAWN, ERRORS, ENDED = "page", "gs.err", "gs.end"
 # What Ghostscript prints about a font that it looks for itself, of a font of CJK too, and about the file that it takes.
 LOADED = re.compile(r"^Loading (?:font (\S+) \(or substitute\)|CIDFont (\S+) substitute) from (?:.*/)?([^/\n]+)$",
                     re.MULTILINE)
@@ -59,6 +60,8 @@ def render(source: Source, page: int, settings: Settings, folder: str) -> Render
     words += profile_words(settings.icc, folder)
     with open(os.path.join(folder, ERRORS), "w+b") as errors:
         done = ghostscript(folder, [*words, name], settings.time, source.place(page), errors)
+    with open(os.path.join(folder, ENDED), "wb"):
+        pass
     if done.returncode != 0:
         raise PressError(Status.PDF, f"Ghostscript cannot read it: {complaint(done)}", source.place(page))
     separations = separations_in(folder, done.stdout + b"\n" + done.stderr)
