@@ -51,13 +51,15 @@ class FarmJson(FarmLines):
             self.work(line)
             return
         event, text = record.get("event"), str(record.get("text"))
+        # What concerns the whole file comes with each page.
+        said = text if record.get("page") is None else f"page {record['page']}: {text}"
         if event == "page-failed":
             self.fail(int(record["page"]))
         elif event == "page-done":
             self.ended.add(int(record["page"]))
-        if event in OF_A_RUN or event in ONCE and text in self.warned:
+        if event in OF_A_RUN or event in ONCE and said in self.warned:
             return
-        self.warned.update([text] if event in ONCE else [])
+        self.warned.update([said] if event in ONCE else [])
         if event == "refused":
             self.tell("warning", page=None, command="press-all", text=f"{record['place']}: {text}")
         else:
