@@ -126,8 +126,9 @@ def trapped_by_command(page: Path, scratch: Path) -> dict[str, bytes]:
 
 
 def files_of(page: Path) -> dict[str, bytes]:
-    """The trapped plates and reports of a page."""
-    return {one.name: one.read_bytes() for one in (page / "trapped").iterdir()}
+    """The trapped plates and reports of a page, and the plates that trapping began from."""
+    trapped = page / "trapped"
+    return {str(one.relative_to(trapped)): one.read_bytes() for one in trapped.rglob("*") if one.is_file()}
 
 
 def zone(**settings):

@@ -26,7 +26,7 @@ def gaps_opened(planes: Sequence[Tints], densities: Sequence[float], shifts: Seq
     if not radius:
         return found
     moved = [shifted(plane, shift, (0, 0, width, height)) for plane, shift in zip(planes, shifts)]
-    for rows, columns, around in stretches(planes, planes, densities, radius):
+    for rows, columns, around in stretches(planes, planes, densities, radius, range(height)):
         own = tuple(slice(one.start - far.start, one.stop - far.start) for one, far in zip((rows, columns), around))
         near = spread(printed([plane[around] for plane in planes], densities), radius, np.minimum)[own]
         found[rows, columns] = printed([plane[rows, columns] for plane in moved], densities) < near - np.float32(MARGIN)
