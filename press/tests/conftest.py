@@ -36,10 +36,11 @@ def pytest_collection_modifyitems(config: pytest.Config, items: list[pytest.Item
 
 
 def program_path(name: str) -> Path | None:
-    """Where a program stands: in TRAP_BIN, or where it is built, or taken from the release. Nothing here builds one."""
+    """Where a program stands: in TRAP_BIN, or where it is built, or unpacked from the release. Nothing here builds one."""
     named = os.environ.get("TRAP_BIN")
-    places = [Path(named) / name] if named else [TOP / "crates" / name / "out" / name, TOP / "out" / "release" / name]
-    return next((place.resolve() for place in places if os.access(place, os.X_OK) and place.is_file()), None)
+    found = Path(named) / name if named else Path(subprocess.run(
+        [TOP / "tools" / "program", "--there", name], capture_output=True, text=True, check=False).stdout.strip() or "/nonexistent")
+    return found.resolve() if os.access(found, os.X_OK) and found.is_file() else None
 
 
 @pytest.fixture(scope="session", name="programs")

@@ -1,5 +1,6 @@
 # SPDX-License-Identifier: Apache-2.0
 """Usage errors, --help, --version and completion of all press commands."""
+import re
 import subprocess
 
 import pytest
@@ -7,7 +8,7 @@ from room import COMMANDS, TOP, Room
 
 pytestmark = [pytest.mark.quick, pytest.mark.plain]
 
-COMMAND_NAMES = ("plates", "zones", "trap", "tiff", "look", "all", "compare", "farm", "watch", "preflight", "proof", "slurm-here", "press")
+COMMAND_NAMES = ("preflight", "plates", "zones", "trap", "tiff", "pdf", "screen", "look", "proof", "all", "compare", "desk", "farm", "watch", "slurm-here", "press")
 # A command line of each command that lacks nothing.
 COMPLETE = {"plates": ["two.pdf", "new"], "zones": ["two"], "trap": ["two"], "tiff": ["two", "new"], "look": ["two", "new.png"], "all": ["two.pdf", "new"], "compare": ["two", "two"],
             "farm": ["two.pdf", "new"], "watch": ["hot"], "preflight": ["two.pdf"], "proof": ["two"]}
@@ -79,6 +80,14 @@ def test_unknown_options_and_operands(folder: Room, command: str) -> None:
 def test_wrong_values(folder: Room, command: str, line: str, words: list[str]) -> None:
     """A value that an option does not take is a usage error that names the option and the value."""
     folder.refused(2, f"press-{command}: {line}", command, *words)
+
+
+def test_press_has_all_commands(room: Room) -> None:
+    """`press NAME` is press/NAME, for each command that its help lists."""
+    names = re.findall(r"^  ([a-z][a-z-]+)  ", room.goes("press", "--help").out, re.M)
+    assert names == list(COMMAND_NAMES[:-1])
+    for name in names:
+        assert room.goes("press", name, "--version").out == room.goes(name, "--version").out
 
 
 def test_press_has_no_other_commands(folder: Room) -> None:
