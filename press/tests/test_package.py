@@ -12,8 +12,8 @@ from room import TOP
 
 PACKAGE = TOP / "python" / "press"
 MODULES = sorted(path.stem for path in PACKAGE.glob("*.py") if path.stem != "__init__")
-# What prints for the commands.
-PRINTERS = {"command", "printing", "start"}
+# What prints for the commands, or starts one.
+PRINTERS = {"command", "printing", "start", "farm_client", "farm_slots"}
 
 
 def layers() -> dict[str, int]:
