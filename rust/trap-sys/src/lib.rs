@@ -31,77 +31,42 @@ pub struct TrapPlace {
     pub core_height: u32,
 }
 
+/// Declares functions that trap planes of a type of samples: all of a page; or those of a window, at a place.
+macro_rules! trapping {
+    ($($name:ident($sample:ty $(, $place:ident)?);)*) => {
+        extern "C" {
+            $(pub fn $name(
+                job: *const c_char,
+                job_size: usize,
+                names: *const c_char,
+                names_size: usize,
+                samples: *mut $sample,
+                sample_count: usize,
+                width: u32,
+                height: u32,
+                step: u32,
+                maxval: u32,
+                $($place: *const TrapPlace,)?
+                text: *mut c_char,
+                text_size: usize,
+                text_len: *mut usize,
+            ) -> TrapStatus;)*
+        }
+    };
+}
+
+trapping! {
+    trap_planes8(u8);
+    trap_planes16(u16);
+    trap_window8(u8, place);
+    trap_window16(u16, place);
+}
+
 extern "C" {
-    pub fn trap_planes8(
-        job: *const c_char,
-        job_size: usize,
-        names: *const c_char,
-        names_size: usize,
-        samples: *mut u8,
-        sample_count: usize,
-        width: u32,
-        height: u32,
-        step: u32,
-        maxval: u32,
-        text: *mut c_char,
-        text_size: usize,
-        text_len: *mut usize,
-    ) -> TrapStatus;
-
-    pub fn trap_planes16(
-        job: *const c_char,
-        job_size: usize,
-        names: *const c_char,
-        names_size: usize,
-        samples: *mut u16,
-        sample_count: usize,
-        width: u32,
-        height: u32,
-        step: u32,
-        maxval: u32,
-        text: *mut c_char,
-        text_size: usize,
-        text_len: *mut usize,
-    ) -> TrapStatus;
-
     pub fn trap_halo(
         job: *const c_char,
         job_size: usize,
         halo: *mut u32,
-        text: *mut c_char,
-        text_size: usize,
-        text_len: *mut usize,
-    ) -> TrapStatus;
-
-    pub fn trap_window8(
-        job: *const c_char,
-        job_size: usize,
-        names: *const c_char,
-        names_size: usize,
-        samples: *mut u8,
-        sample_count: usize,
-        width: u32,
-        height: u32,
-        step: u32,
-        maxval: u32,
-        place: *const TrapPlace,
-        text: *mut c_char,
-        text_size: usize,
-        text_len: *mut usize,
-    ) -> TrapStatus;
-
-    pub fn trap_window16(
-        job: *const c_char,
-        job_size: usize,
-        names: *const c_char,
-        names_size: usize,
-        samples: *mut u16,
-        sample_count: usize,
-        width: u32,
-        height: u32,
-        step: u32,
-        maxval: u32,
-        place: *const TrapPlace,
         text: *mut c_char,
         text_size: usize,
         text_len: *mut usize,

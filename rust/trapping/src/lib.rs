@@ -90,52 +90,39 @@ impl Text {
     }
 }
 
+/// Calls a function of the library for planes: all of a page; or those of a window, at a place.
+macro_rules! trapped {
+    ($function:ident, $call:ident, $samples:ident, $text:ident $(, $place:ident)?) => {
+        // SAFETY: each pointer comes from a slice, with its length; the samples, the text and its length are borrowed
+        // mutably, so nothing else shares memory with them.
+        unsafe {
+            trap_sys::$function(
+                $call.job.as_ptr().cast(),
+                $call.job.len(),
+                $call.names.as_ptr().cast(),
+                $call.names.len(),
+                $samples.as_mut_ptr(),
+                $samples.len(),
+                $call.layout.width,
+                $call.layout.height,
+                $call.layout.step,
+                $call.layout.maxval,
+                $($place,)?
+                $text.bytes.as_mut_ptr().cast(),
+                $text.bytes.len(),
+                &mut $text.len,
+            )
+        }
+    };
+}
+
 macro_rules! samples {
     ($type:ty, $page:ident, $window:ident) => {
         impl Sample for $type {
             fn call(call: &Call<'_>, samples: &mut [Self], place: Option<&Place>, text: &mut Text) -> u8 {
-                let (job, names, layout) = (
-                    call.job.as_ptr().cast::<c_char>(),
-                    call.names.as_ptr().cast::<c_char>(),
-                    call.layout,
-                );
-                let into = text.bytes.as_mut_ptr().cast::<c_char>();
-                // SAFETY: each pointer comes from a slice, with its length; the samples, the text and its length are borrowed
-                // mutably, so nothing else shares memory with them.
-                unsafe {
-                    match place {
-                        None => trap_sys::$page(
-                            job,
-                            call.job.len(),
-                            names,
-                            call.names.len(),
-                            samples.as_mut_ptr(),
-                            samples.len(),
-                            layout.width,
-                            layout.height,
-                            layout.step,
-                            layout.maxval,
-                            into,
-                            text.bytes.len(),
-                            &mut text.len,
-                        ),
-                        Some(place) => trap_sys::$window(
-                            job,
-                            call.job.len(),
-                            names,
-                            call.names.len(),
-                            samples.as_mut_ptr(),
-                            samples.len(),
-                            layout.width,
-                            layout.height,
-                            layout.step,
-                            layout.maxval,
-                            place,
-                            into,
-                            text.bytes.len(),
-                            &mut text.len,
-                        ),
-                    }
+                match place {
+                    None => trapped!($page, call, samples, text),
+                    Some(place) => trapped!($window, call, samples, text, place),
                 }
             }
         }
