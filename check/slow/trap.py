@@ -4,10 +4,10 @@ from .entries import DEFAULTS, Ink
 from .jobs import Zone
 from .pages import Page, gather
 from .plates import LONGEST_SIDE, MOST_SAMPLES
-from .refusals import page_refusal, usage
+from .refusals import page_refusal
 from .reports import report
 from .rule import rule_of
-from .words import NoCommand, named_plates, number
+from .words import NoCommand, named_plates, number, run_command
 from .writing import write_page
 
 OPTIONS = {"--workers": 64, "--band": 4096}
@@ -15,16 +15,7 @@ OPTIONS = {"--workers": 64, "--band": 4096}
 
 def run(words, outside):
     """One command. Workers and bands are judged, and change nothing of what comes out."""
-    try:
-        if words[:1] == ["page"]:
-            command = page_command(words[1:])
-        elif words[:1] == ["sample"]:
-            command = sample_command(words[1:])
-        else:
-            raise NoCommand()
-    except NoCommand:
-        raise usage("trap")
-    command(outside)
+    run_command("trap", {"page": page_command, "sample": sample_command}, words, outside)
 
 
 def page_command(words):

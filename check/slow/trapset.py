@@ -11,9 +11,9 @@ from collections import namedtuple
 
 from .pages import gather, read_file, read_plate
 from .plates import GREATEST_MAXVAL, LONGEST_SIDE, MOST_SAMPLES, tints_of
-from .refusals import SET, Refusal, usage
+from .refusals import SET, Refusal
 from .rule import rule_of
-from .words import MOST_PLATES, NoCommand, judge_distinct, judge_names, many
+from .words import MOST_PLATES, judge_distinct, judge_names, many, run_command
 from .writing import write_file, write_plates
 
 LONGEST_LINE = 160
@@ -27,16 +27,7 @@ Run = namedtuple("Run", "row first length tints")
 
 
 def run(words, outside):
-    try:
-        if words[:1] == ["traps"]:
-            command = traps_command(words[1:])
-        elif words[:1] == ["apply"]:
-            command = apply_command(words[1:])
-        else:
-            raise NoCommand()
-    except NoCommand:
-        raise usage("trapset")
-    command(outside)
+    run_command("trapset", {"traps": traps_command, "apply": apply_command}, words, outside)
 
 
 def traps_command(words):

@@ -2,12 +2,25 @@
 """What words mean: numbers, colorants' names, and words of several parts."""
 import re
 
+from .refusals import usage
+
 MOST_PLATES = 16
 NAME = re.compile(r"(?:(?![()<>\[\]{}/%])[!-~]){1,64}")
 
 
 class NoCommand(Exception):
     """The words mean no command."""
+
+
+def run_command(program, commands, words, outside):
+    """Runs a program of several commands: the first word names one, which reads the others."""
+    try:
+        if not words or words[0] not in commands:
+            raise NoCommand()
+        command = commands[words[0]](words[1:])
+    except NoCommand:
+        raise usage(program)
+    command(outside)
 
 
 def number(word, least, greatest):

@@ -52,6 +52,13 @@ static inline FILE *begun(const char *name) {
   return file;
 }
 
+/* Writes a text into a file. */
+static inline void write_text(const char *name, const char *text, size_t size) {
+  FILE *file = begun(name);
+  fwrite(text, 1, size, file);
+  if (fclose(file)) stop(name, strerror(errno));
+}
+
 static unsigned sample(const uint8_t *raster, size_t at, unsigned maxval) {
   return maxval < 256 ? raster[at] : raster[2 * at] * 256u + raster[2 * at + 1];
 }

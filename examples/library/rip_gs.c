@@ -52,9 +52,7 @@ static trap_status trap_page(const struct rip *rip, int planes) {
                                     &text_len);
   if (status != LIBTRAP_DONE) return fwrite(text, 1, text_len, stderr), status;
   snprintf(path, sizeof path, "%s/%d.report", rip->folder, rip->page);
-  FILE *file = begun(path);
-  fwrite(text, 1, text_len, file);
-  if (fclose(file)) stop(path, strerror(errno));
+  write_text(path, text, text_len);
   return status;
 }
 

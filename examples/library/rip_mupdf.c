@@ -76,9 +76,7 @@ static trap_status trap_page(struct rip *rip) {
                                     planes->width, planes->height, planes->width, 255, text, sizeof text, &text_len);
   if (status != LIBTRAP_DONE) return fwrite(text, 1, text_len, stderr), status;
   snprintf(path, sizeof path, "%s/%d.report", rip->folder, rip->page);
-  FILE *file = begun(path);
-  fwrite(text, 1, text_len, file);
-  if (fclose(file)) stop(path, strerror(errno));
+  write_text(path, text, text_len);
   return status;
 }
 
