@@ -13,7 +13,7 @@ from press.plates import Plates
 from press.rects import Rect
 from press.settings import Settings
 from press.source import PageInfo
-from press.trace import Trace
+from traces import trace_of
 
 pytestmark = [pytest.mark.quick, pytest.mark.plain]
 INFO = PageInfo({"media": (0.0, 0.0, 144.0, 72.0)}, 0, 1.0, ())
@@ -78,26 +78,15 @@ def test_two_opaque_inks_are_named_once() -> None:
 
 # What is painted
 
-def painted(*elements: tuple[str, dict[str, str]]) -> Trace:
-    """The trace of elements on a page of 144 by 72 points; a name with a slash ends one."""
-    trace = Trace()
-    for tag, values in elements:
-        if tag.startswith("/"):
-            trace.end(tag[1:])
-        else:
-            trace.start(tag, values)
-    return trace
-
-
 def type_of(space: str, colour: str, size: str = "9") -> list[tuple[str, dict[str, str]]]:
-    """A glyph at 10, 20 points."""
+    """A glyph at 10, 20 points, on a page of 144 by 72."""
     return [("fill_text", {"colorspace": space, "color": colour, "transform": "1 0 0 -1 0 72"}),
             ("span", {"trm": f"{size} 0 0 {size}"}), ("g", {"x": "10", "y": "20", "adv": ".6"}), ("/fill_text", {})]
 
 
 def test_colours_that_are_no_inks() -> None:
-    trace = painted(*type_of("DeviceRGB", "1 0 0"), *type_of("DeviceCMYK", "1 0 0 0"),
-                    *type_of("Separation(DeviceCMYK,Gold)", "1"), *type_of("DeviceGray", "0"))
+    trace = trace_of(*type_of("DeviceRGB", "1 0 0"), *type_of("DeviceCMYK", "1 0 0 0"),
+                     *type_of("Separation(DeviceCMYK,Gold)", "1"), *type_of("DeviceGray", "0"))
     found = texts(content.colour_findings(trace, INFO, Settings(), 1))
     assert found == {"colour-space": "colour in DeviceRGB at 4, 8 mm is separated by Ghostscript's own profile (--icc "
                                      "or --output-intent)"}
@@ -107,20 +96,20 @@ def test_colours_that_are_no_inks() -> None:
     ("DeviceRGB", "0 0 0", True), ("DeviceRGB", "0.5 0 0", False), ("DeviceCMYK", ".6 .5 .4 1", True),
     ("DeviceCMYK", "0 0 0 1", False), ("DeviceCMYK", ".3 0 0 1", False), ("DeviceGray", "0", False)])
 def test_black_type_of_several_inks(space: str, colour: str, is_rich: bool) -> None:
-    found = texts(content.colour_findings(painted(*type_of(space, colour)), INFO, Settings(), 1))
+    found = texts(content.colour_findings(trace_of(*type_of(space, colour)), INFO, Settings(), 1))
     assert ("rich-type" in found) == is_rich
     assert not is_rich or "black type of 9.0 pt" in found["rich-type"]
 
 
 def test_hairlines_and_coarse_images() -> None:
     line = [("moveto", {"x": "0", "y": "0"}), ("lineto", {"x": "90", "y": "9"}), ("/stroke_path", {})]
-    trace = painted(("stroke_path", {"linewidth": ".4", "transform": ".5 0 0 .5 0 0"}), *line,
-                    ("stroke_path", {"linewidth": "1"}), *line,
-                    ("fill_image", {"width": "100", "height": "100", "transform": "72 0 0 72 0 0"}))
+    trace = trace_of(("stroke_path", {"linewidth": ".4", "transform": ".5 0 0 .5 0 0"}), *line,
+                     ("stroke_path", {"linewidth": "1"}), *line,
+                     ("fill_image", {"width": "100", "height": "100", "transform": "72 0 0 72 0 0"}))
     found = texts(content.line_findings(trace, INFO, Settings(), 1))
     assert "a line of 0.20 pt" in found["hairline"] and "100 pixels per inch" in found["image-resolution"]
-    fine = painted(("stroke_path", {"linewidth": "1"}), *line,
-                   ("fill_image", {"width": "300", "height": "300", "transform": "72 0 0 72 0 0"}))
+    fine = trace_of(("stroke_path", {"linewidth": "1"}), *line,
+                    ("fill_image", {"width": "300", "height": "300", "transform": "72 0 0 72 0 0"}))
     assert not list(content.line_findings(fine, INFO, Settings(), 1))
 
 
@@ -128,7 +117,7 @@ def test_hairlines_and_coarse_images() -> None:
     ("4", "1 .6 0 .2", 600, True), ("4", "1 .6 0 .2", 1200, False), ("9", "1 .6 0 .2", 600, False),
     ("4", "0 0 0 1", 600, False), ("4", "0 0 0 0", 600, False)])
 def test_coloured_type_that_is_too_small_for_traps(size: str, colour: str, dpi: int, is_found: bool) -> None:
-    found = texts(content.type_findings(painted(*type_of("DeviceCMYK", colour, size)), INFO, Settings(dpi=dpi), 1))
+    found = texts(content.type_findings(trace_of(*type_of("DeviceCMYK", colour, size)), INFO, Settings(dpi=dpi), 1))
     assert ("thin-strokes" in found) == is_found
     assert not is_found or "strokes of about 2.7 pixels at 600 dpi" in found["thin-strokes"]
 
@@ -137,7 +126,7 @@ def test_coloured_type_that_is_too_small_for_traps(size: str, colour: str, dpi: 
                                                    ("9", (60, 50, 40, 100), False)])
 def test_small_type_reversed_out_of_several_inks(size: str, tints: tuple[int, ...], is_found: bool) -> None:
     plates, inks = page((0, 0, 144, 72, tints))
-    trace = painted(*type_of("DeviceCMYK", "0 0 0 0", size))
+    trace = trace_of(*type_of("DeviceCMYK", "0 0 0 0", size))
     found = texts(content.reversed_findings(trace, plates, inks, INFO, Settings(), 1))
     assert ("small-reverse" in found) == is_found
     assert not is_found or "5.0 pt is reversed out of Cyan + Magenta + Yellow + Black" in found["small-reverse"]

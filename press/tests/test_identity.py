@@ -167,7 +167,7 @@ def test_digests_are_taken_again_only_if_the_system_shows_a_change(tmp_path: Pat
     path = tmp_path / "job.pdf"
     path.write_bytes(b"one")
     os.utime(path, ns=(0, 0))
-    taken = identity.Input.take(str(path))
+    taken = identity.take(str(path))
     monkeypatch.setattr(identity, "RACY_NS", -10**12)
     assert taken.is_untouched() and taken.changed_line() is None
     path.write_bytes(b"one")

@@ -17,6 +17,7 @@ from press.regions import box_on_page
 from press.settings import Settings, parameters
 from press.source import PageInfo
 from press.trace import Trace
+from traces import trace_of
 
 pytestmark = [pytest.mark.quick, pytest.mark.plain]
 MEDIA, BLEED, TRIM = (0.0, 0.0, 220.0, 160.0), (10.0, 10.0, 210.0, 150.0), (20.0, 20.0, 200.0, 140.0)
@@ -90,17 +91,6 @@ def test_no_strokes_are_looked_for_in_pictures_alone() -> None:
     left = pictures_alone([Rect(0, 0, 100, 100), Rect(200, 0, 300, 100)], [Rect(40, 40, 60, 60)])
     assert sum(rect.area for rect in left) == 20_000 - 400
     assert not any(rect.meets(Rect(40, 40, 60, 60)) for rect in left)
-
-
-def trace_of(*elements: tuple[str, dict[str, str]]) -> Trace:
-    """A trace of these elements; a name with a slash ends one."""
-    trace = Trace()
-    for tag, values in elements:
-        if tag.startswith("/"):
-            trace.end(tag[1:])
-        else:
-            trace.start(tag, values)
-    return trace
 
 
 def test_a_trace_has_marks_in_their_order() -> None:

@@ -16,6 +16,16 @@ from pdf_writer import JAPAN, Pdf, spaces, spot
 BUSY_CELL = 40
 INKS = ("1 0 0 0", "0 1 0 0", "0 0 1 0", "0 0 0 1", ".6 0 .9 0", "0 .6 1 0", ".3 .2 .2 .1", ".7 .6 .6 1")
 TYPE = "/Font << /F << /Type /Font /Subtype /Type1 /BaseFont /Helvetica-Bold >> >>"
+# Of each file: what makes it, what press/all ends with, and what is bad about it.
+FILES = {}
+
+
+def makes(name, status, what):
+    """A decorator of what makes a file."""
+    def note(make):
+        FILES[name] = make, status, what
+        return make
+    return note
 
 
 def disc(x, y, radius):
@@ -78,6 +88,7 @@ def with_spots(count):
 
 # What inks do to one another
 
+@makes("technical.pdf", 0, "die lines, varnish, white, foil and glue, of which some knock out")
 def technical():
     """A die line that overprints and one that knocks out, a varnish, a white, a foil, a glue."""
     file = Pdf()
@@ -89,6 +100,7 @@ def technical():
     return file.bytes()
 
 
+@makes("overprint.pdf", 0, "overprints of an ink, a spot, type and white")
 def overprint():
     """Yellow, a spot, black type and a white that overprint cyan, and the same that knock out."""
     file = Pdf()
@@ -100,6 +112,7 @@ def overprint():
     return file.bytes()
 
 
+@makes("transparency.pdf", 0, "blends, soft masks and tints over a spot, in a CMYK group and in one of RGB")
 def transparency():
     """Shadows, blends, and a soft mask over process inks and a spot; on a page whose group is CMYK, and on one whose group is RGB."""
     file = Pdf()
@@ -118,6 +131,7 @@ def transparency():
     return file.bytes()
 
 
+@makes("shades.pdf", 0, "fades beside each other")
 def shades():
     """Fades of process inks and of a spot, straight, round, and by a function of steps."""
     file = Pdf()
@@ -133,6 +147,7 @@ def shades():
     return file.bytes()
 
 
+@makes("rich-black.pdf", 0, "white type of three points in four inks")
 def rich_black():
     """White hairlines, small white type and figures in black of four inks, beside cyan."""
     file = Pdf()
@@ -143,6 +158,7 @@ def rich_black():
     return file.bytes()
 
 
+@makes("registration.pdf", 0, "marks in all inks, a colorant that is none, mixtures, process inks as spots")
 def registration():
     """Marks in all inks, a colorant that is none, a mixture of a process ink and a spot, and process inks by the way of spots."""
     file = Pdf()
@@ -161,6 +177,7 @@ ODD_SPOTS = ["Étikett".encode(), b"Cut/Crease", "漢字".encode(), b"line\nbrea
              b"x" * 120, b"<b>bold</b>"]
 
 
+@makes("names.pdf", 0, "spots with names of all sorts")
 def names():
     file = Pdf()
     content = "1 0 0 0 k 0 0 300 30 re f " + " ".join(f"/S{k} cs 1 scn {10 + k * 22} 15 22 40 re f" for k in range(len(ODD_SPOTS)))
@@ -170,6 +187,7 @@ def names():
 
 # Photographs
 
+@makes("photos.pdf", 0, "photographs in every way that they are placed")
 def photos():
     """Photographs in CMYK, in RGB and in gray, with a soft edge, turned, in a round frame, in strips, as a pattern, with type on them."""
     file = Pdf()
@@ -191,6 +209,7 @@ def photos():
 
 # Pages as they lie
 
+@makes("turned.pdf", 0, "turned pages, boxes that begin below nothing, a point of two")
 def turned():
     """A page turned each way, its boxes beginning below nothing, a photograph on it and a pair of colours; and one whose point is two."""
     file = Pdf()
@@ -203,6 +222,7 @@ def turned():
     return file.bytes()
 
 
+@makes("boxes.pdf", 0, "boxes that are larger than the page, the wrong way round, empty, elsewhere")
 def boxes():
     file = Pdf()
     pair = "1 0 0 0 k 10 10 40 28 re f 0 1 0 0 k 50 10 40 28 re f"
@@ -220,6 +240,7 @@ def wrong_box(box):
     return make
 
 
+@makes("layers.pdf", 0, "a layer that is off, annotations, a form")
 def layers():
     """A layer that is off, an annotation that prints and one that does not, a form's field."""
     file = Pdf()
@@ -233,6 +254,7 @@ def layers():
     return file.bytes(f"/OCProperties << /OCGs [{hidden}] /D << /OFF [{hidden}] /Order [{hidden}] >> >> /AcroForm << /Fields [{notes[2]}] >>")
 
 
+@makes("fonts.pdf", 0, "fonts that lack, of which one is not named")
 def fonts():
     """A page for each: a font that is not there, one of Japan that is not there, one that is drawn, one that the page does not name, and one
     whose file is no font."""
@@ -252,6 +274,8 @@ def fonts():
 
 # Broken files
 
+@makes("new.ai", 0, "an Illustrator file that is a PDF")
+@makes("pdf-named.eps", 0, "a PDF that is called EPS")
 def plain():
     file = Pdf()
     drawn = picture(file, 60, 45, "/DeviceCMYK", 4)
@@ -259,6 +283,7 @@ def plain():
     return file.bytes()
 
 
+@makes("changed-bytes.pdf", 1, "60 bytes changed")
 def changed_bytes():
     data, at = bytearray(plain()), 500
     for k in range(60):
@@ -267,11 +292,13 @@ def changed_bytes():
     return bytes(data)
 
 
+@makes("without-places.pdf", 0, "the table of places cut off")
 def without_places():
     data = plain()
     return data[:data.rindex(b"xref\n0 ")]
 
 
+@makes("ring.pdf", 1, "a tree of pages that has itself as a page")
 def pages_in_a_ring():
     file = Pdf()
     file.page("0 0 0 1 k 10 10 20 20 re f")
@@ -279,6 +306,7 @@ def pages_in_a_ring():
     return file.bytes()
 
 
+@makes("form-in-itself.pdf", 1, "a drawing that draws itself")
 def form_in_itself():
     file = Pdf()
     number = len(file.objects) + 1
@@ -287,10 +315,12 @@ def form_in_itself():
     return file.bytes()
 
 
+@makes("no-content.pdf", 1, "a page whose content is not there")
 def content_that_lacks():
     return plain().replace(b"/Contents 4 0 R", b"/Contents 9 0 R")
 
 
+@makes("wrong-filter.pdf", 0, "a photograph packed by nobody knows what")
 def wrong_filter():
     file = Pdf()
     drawn = file.image("/Width 60 /Height 45 /BitsPerComponent 8 /ColorSpace /DeviceCMYK /Filter /NoSuchDecode", photo(60, 45, 4))
@@ -298,6 +328,7 @@ def wrong_filter():
     return file.bytes()
 
 
+@makes("short-image.pdf", 0, "a photograph of which half is there")
 def short_image():
     file = Pdf()
     drawn = file.image("/Width 60 /Height 45 /BitsPerComponent 8 /ColorSpace /DeviceCMYK /Filter /FlateDecode", zlib.compress(photo(60, 20, 4)))
@@ -305,6 +336,7 @@ def short_image():
     return file.bytes()
 
 
+@makes("no-pages.pdf", 5, "no pages")
 def no_pages():
     return Pdf().bytes()
 
@@ -316,25 +348,30 @@ def drawing(left=0, lower=0):
             f"setcolorspace 1 setcolor {left + 25} {lower + 5} 20 30 rectfill ").encode()
 
 
+@makes("old.ai", 0, "an Illustrator file of the old sort")
 def eps(left=0, lower=0, end=b"\n", box=None):
     head = b"%!PS-Adobe-3.0 EPSF-3.0" + end + (box or f"%%BoundingBox: {left} {lower} {left + 60} {lower + 40}".encode()) + end
     return head + b"%%EndComments" + end + drawing(left, lower) + b"showpage" + end
 
 
+@makes("preview.eps", 0, "an EPS with a picture of itself")
 def eps_with_preview():
     """An EPS as programs of DOS save it: a head that says where PostScript and the picture of it stand."""
     text = eps()
     return b"\xc5\xd0\xd3\xc6" + b"".join(part.to_bytes(4, "little") for part in (30, len(text), 0, 0, 30 + len(text), 8)) + b"\xff\xff" + text + b"II*\0\0\0\0\0"
 
 
+@makes("at-end.eps", 0, "an EPS that tells its box at its end")
 def eps_box_at_end():
     return eps(box=b"%%BoundingBox: (atend)") + b"%%Trailer\n%%BoundingBox: 0 0 60 40\n%%EOF\n"
 
 
+@makes("three.ps", 0, "PostScript of three pages")
 def three_pages():
     return b"%!PS\n<< /PageSize [90 60] >> setpagedevice\n" + (drawing() + b"showpage\n") * 3
 
 
+@makes("driver.ps", 0, "PostScript with a printer's words around it")
 def from_a_driver():
     """PostScript as a printer's driver sends it, words for the printer around it."""
     return b"\x1b%-12345X@PJL JOB\r\n@PJL ENTER LANGUAGE = POSTSCRIPT \r\n" + three_pages() + b"\x04\x1b%-12345X@PJL EOJ\r\n\x1b%-12345X"
@@ -352,51 +389,23 @@ def label():
 
 
 A4, B2, POSTER = (595, 842), (1417, 2004), (14400, 14400)
-# Of each file: what makes it, what press/all ends with, and what is bad about it.
-FILES = {
+FILES.update({
     "a4-full.pdf": (large(*A4), 0, "A4 that is full in four inks"),
     "b2-full.pdf": (large(*B2), 0, "a sheet of B2 that is full in four inks"),
     "poster.pdf": (large(*POSTER, 400, 10), 1, "fifty metres a side"),
     "spots-12.pdf": (with_spots(12), 0, "sixteen plates"),
     "spots-20.pdf": (with_spots(20), 1, "more plates than a job may have"),
-    "technical.pdf": (technical, 0, "die lines, varnish, white, foil and glue, of which some knock out"),
-    "overprint.pdf": (overprint, 0, "overprints of an ink, a spot, type and white"),
-    "transparency.pdf": (transparency, 0, "blends, soft masks and tints over a spot, in a CMYK group and in one of RGB"),
-    "shades.pdf": (shades, 0, "fades beside each other"),
-    "rich-black.pdf": (rich_black, 0, "white type of three points in four inks"),
-    "registration.pdf": (registration, 0, "marks in all inks, a colorant that is none, mixtures, process inks as spots"),
-    "names.pdf": (names, 0, "spots with names of all sorts"),
-    "photos.pdf": (photos, 0, "photographs in every way that they are placed"),
-    "turned.pdf": (turned, 0, "turned pages, boxes that begin below nothing, a point of two"),
-    "boxes.pdf": (boxes, 0, "boxes that are larger than the page, the wrong way round, empty, elsewhere"),
     "no-box.pdf": (wrong_box("/MediaBox null"), 0, "a page without a box"),
     "short-box.pdf": (wrong_box("/MediaBox [0 0 120]"), 1, "a box of three numbers"),
     "empty-box.pdf": (wrong_box("/MediaBox [0 0 0 0]"), 1, "an empty box"),
     "point.pdf": (wrong_box("/MediaBox [0 0 1 1]"), 0, "a page of a point"),
-    "layers.pdf": (layers, 0, "a layer that is off, annotations, a form"),
-    "fonts.pdf": (fonts, 0, "fonts that lack, of which one is not named"),
-    "changed-bytes.pdf": (changed_bytes, 1, "60 bytes changed"),
-    "without-places.pdf": (without_places, 0, "the table of places cut off"),
     "cut.pdf": (lambda: plain()[:len(plain()) * 6 // 10], 1, "cut in the middle"),
-    "ring.pdf": (pages_in_a_ring, 1, "a tree of pages that has itself as a page"),
-    "form-in-itself.pdf": (form_in_itself, 1, "a drawing that draws itself"),
-    "no-content.pdf": (content_that_lacks, 1, "a page whose content is not there"),
-    "wrong-filter.pdf": (wrong_filter, 0, "a photograph packed by nobody knows what"),
-    "short-image.pdf": (short_image, 0, "a photograph of which half is there"),
-    "no-pages.pdf": (no_pages, 5, "no pages"),
     "empty.pdf": (lambda: b"", 5, "no bytes"),
     "error-page.pdf": (lambda: b"<!DOCTYPE html><html><body>404 Not Found</body></html>\n", 5, "what a server said in place of the file"),
     "offset.eps": (lambda: eps(300, 500), 0, "an EPS far from the corner"),
-    "preview.eps": (eps_with_preview, 0, "an EPS with a picture of itself"),
-    "at-end.eps": (eps_box_at_end, 0, "an EPS that tells its box at its end"),
     "carriage-return.eps": (lambda: eps(end=b"\r"), 0, "an EPS with the line ends of old systems"),
     "no-box.eps": (lambda: eps(box=b"%%Title: none"), 0, "an EPS that tells no box"),
-    "three.ps": (three_pages, 0, "PostScript of three pages"),
-    "driver.ps": (from_a_driver, 0, "PostScript with a printer's words around it"),
-    "old.ai": (eps, 0, "an Illustrator file of the old sort"),
-    "new.ai": (plain, 0, "an Illustrator file that is a PDF"),
-    "pdf-named.eps": (plain, 0, "a PDF that is called EPS"),
-}
+})
 # Files that stand beside a PDF: of each stem the end of the name, the bytes, what press/all ends with, and what is bad.
 BESIDE = {
     "marked": (".inks", b"\xef\xbb\xbf" + TABLE.encode(), 0, "a table with a byte order mark"),
