@@ -1,8 +1,8 @@
 # SPDX-License-Identifier: Apache-2.0
 """The tables programs.txt and crates.txt, and the stamp of a program's sources."""
 import hashlib
-from dataclasses import dataclass
 from pathlib import Path
+from typing import NamedTuple
 
 TOP = Path(__file__).resolve().parent.parent
 # The crate of the library, which is stamped and released as the programs are.
@@ -10,8 +10,7 @@ LIBRARY = "trap_c"
 PARTS = ("src", "specs", "proofs")
 
 
-@dataclass(frozen=True)
-class Program:
+class Program(NamedTuple):
     """A row of programs.txt."""
 
     name: str
@@ -20,8 +19,7 @@ class Program:
     usage: str
 
 
-@dataclass(frozen=True)
-class Crate:
+class Crate(NamedTuple):
     """A line of crates.txt: the crate, whether it is a static library, and the crates that it uses."""
 
     name: str

@@ -2,14 +2,17 @@
 """What happens in a run, as its observer receives it. Pages count from 1, seconds are wall time."""
 from collections.abc import Callable
 from dataclasses import dataclass
-from typing import Union
 
 from .errors import Status
 from .findings import Finding
 
 
+class Event:
+    """Something that happens in a run."""
+
+
 @dataclass(frozen=True)
-class RunStarted:
+class RunStarted(Event):
     """The file was opened: the pages to do, of so many that it has; and whether it was PostScript."""
 
     path: str
@@ -19,14 +22,14 @@ class RunStarted:
 
 
 @dataclass(frozen=True)
-class FindingMade:
+class FindingMade(Event):
     """Preflight found something."""
 
     finding: Finding
 
 
 @dataclass(frozen=True)
-class StepStarted:
+class StepStarted(Event):
     """A step of a page begins: a look, plates, traps, TIFF files, pictures or proof. Without a page: the proof
     sheet of all."""
 
@@ -35,7 +38,7 @@ class StepStarted:
 
 
 @dataclass(frozen=True)
-class StepDone:
+class StepDone(Event):
     """A step of a page is done."""
 
     page: int | None
@@ -44,7 +47,7 @@ class StepDone:
 
 
 @dataclass(frozen=True)
-class Warned:
+class Warned(Event):
     """Something that the owner should know, and the command that it concerns."""
 
     page: int | None
@@ -53,7 +56,7 @@ class Warned:
 
 
 @dataclass(frozen=True)
-class PageDone:
+class PageDone(Event):
     """A page is in OUT: how many plates it has, how many samples changed, the bytes of disk that it takes, and whether
     it has what an earlier run made, since its plates are the same."""
 
@@ -66,7 +69,7 @@ class PageDone:
 
 
 @dataclass(frozen=True)
-class PageFailed:
+class PageFailed(Event):
     """A page failed: the status of the step that failed, and the line that says why."""
 
     page: int
@@ -75,13 +78,12 @@ class PageFailed:
 
 
 @dataclass(frozen=True)
-class RunDone:
+class RunDone(Event):
     """All pages are done or failed."""
 
     failed: tuple[int, ...]
 
 
-Event = Union[RunStarted, FindingMade, StepStarted, StepDone, Warned, PageDone, PageFailed, RunDone]
 Observer = Callable[[Event], None]
 
 

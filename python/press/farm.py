@@ -215,7 +215,7 @@ def run_farm(farm: Farm, progress: FarmLines) -> Status:
     farm = go_on(farm) if farm.again else farm
     engine.trapping_program(farm.settings)
     with scratch_folder() as scratch:
-        given, plan = identity.Input.take(farm.path), look(farm, progress, scratch)
+        given, plan = identity.take(farm.path), look(farm, progress, scratch)
         tools.tool("parallel")
         return run_plan(farm, given, plan, progress)
 

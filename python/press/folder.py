@@ -7,7 +7,7 @@ import os
 import re
 import shutil
 from dataclasses import dataclass
-from typing import Any
+from typing import Any, NamedTuple
 
 from . import plates
 from .errors import PressError, Status, reason
@@ -29,14 +29,61 @@ TABLE_HEAD = """\
 """
 
 
-@dataclass(frozen=True)
-class PageSource:
+# The table of colorants
+
+class PageSource(NamedTuple):
     """What a page was made of: the file's name, the page's number from 1, and the resolution in pixels per inch."""
 
     pdf: bytes
     page: int
     resolution: int
 
+
+def write_table(path: str, source: PageSource, inks: tuple[Ink, ...]) -> None:
+    """Writes the table of colorants of a page's folder."""
+    lines = [f"pdf\t{table_name(source.pdf)}", f"page\t{source.page}", f"resolution\t{source.resolution}"]
+    for ink in inks:
+        lines.append("\t".join(("colorant", ink.name, ink.density, ink.kind, " ".join(f"{part:g}" for part in ink.look),
+                                "ink" if ink.has_ink else "blank", table_name(ink.suffix), table_name(ink.colorant),
+                                ink.role)))
+    with named(os.path.join(path, TABLE)), open(os.path.join(path, TABLE), "w", encoding="utf-8") as file:
+        file.write(TABLE_HEAD + "\n".join(lines) + "\n")
+
+
+def read_table(folder: str) -> tuple[PageSource, tuple[Ink, ...]]:
+    """The table of colorants of a page's folder."""
+    need_folder(folder)
+    path = os.path.join(folder, TABLE)
+    try:
+        with open(path, encoding="utf-8") as file:
+            lines = [line.rstrip("\n").split("\t") for line in file if not line.startswith("#")]
+    except FileNotFoundError as fault:
+        raise PressError(Status.NO_PLATES, NO_PLATES, folder) from fault
+    except OSError as fault:
+        raise PressError(Status.INPUT, reason(fault), path) from fault
+    except UnicodeDecodeError as fault:
+        raise PressError(Status.INPUT, "not a table of colorants", path) from fault
+    try:
+        heads = {line[0]: line[1] for line in lines if line[0] != "colorant"}
+        inks = tuple(ink_of(line) for line in lines if line[0] == "colorant")
+        source = PageSource(from_table(heads["pdf"]), int(heads["page"]), int(heads["resolution"]))
+    except (IndexError, KeyError, ValueError) as fault:
+        raise PressError(Status.INPUT, "not a table of colorants", path) from fault
+    if not inks:
+        raise PressError(Status.NO_PLATES, NO_PLATES, folder)
+    return source, inks
+
+
+def ink_of(line: list[str]) -> Ink:
+    """The ink of a line of the table."""
+    _, name, density, kind, look_text, has_ink, suffix, colorant = line[:8]
+    cyan, magenta, yellow, black = (float(part) for part in look_text.split())
+    look = cyan, magenta, yellow, black
+    role = line[8] if len(line) > 8 else "spot"
+    return Ink(name, from_table(colorant), from_table(suffix), density, kind, look, has_ink == "ink", role=role)
+
+
+# The folder of a page
 
 @dataclass(frozen=True)
 class PageFolder:
@@ -89,50 +136,6 @@ class PageFolder:
                 message = (f"{head.width} by {head.height} samples of maxval {head.maxval}, and the page has "
                            f"{self.head.width} by {self.head.height} of {self.head.maxval}")
                 raise PressError(Status.PLATES, message, self.plate(ink, True))
-
-
-def write_table(path: str, source: PageSource, inks: tuple[Ink, ...]) -> None:
-    """Writes the table of colorants of a page's folder."""
-    lines = [f"pdf\t{table_name(source.pdf)}", f"page\t{source.page}", f"resolution\t{source.resolution}"]
-    for ink in inks:
-        lines.append("\t".join(("colorant", ink.name, ink.density, ink.kind, " ".join(f"{part:g}" for part in ink.look),
-                                "ink" if ink.has_ink else "blank", table_name(ink.suffix), table_name(ink.colorant),
-                                ink.role)))
-    with named(os.path.join(path, TABLE)), open(os.path.join(path, TABLE), "w", encoding="utf-8") as file:
-        file.write(TABLE_HEAD + "\n".join(lines) + "\n")
-
-
-def read_table(folder: str) -> tuple[PageSource, tuple[Ink, ...]]:
-    """The table of colorants of a page's folder."""
-    need_folder(folder)
-    path = os.path.join(folder, TABLE)
-    try:
-        with open(path, encoding="utf-8") as file:
-            lines = [line.rstrip("\n").split("\t") for line in file if not line.startswith("#")]
-    except FileNotFoundError as fault:
-        raise PressError(Status.NO_PLATES, NO_PLATES, folder) from fault
-    except OSError as fault:
-        raise PressError(Status.INPUT, reason(fault), path) from fault
-    except UnicodeDecodeError as fault:
-        raise PressError(Status.INPUT, "not a table of colorants", path) from fault
-    try:
-        heads = {line[0]: line[1] for line in lines if line[0] != "colorant"}
-        inks = tuple(ink_of(line) for line in lines if line[0] == "colorant")
-        source = PageSource(from_table(heads["pdf"]), int(heads["page"]), int(heads["resolution"]))
-    except (IndexError, KeyError, ValueError) as fault:
-        raise PressError(Status.INPUT, "not a table of colorants", path) from fault
-    if not inks:
-        raise PressError(Status.NO_PLATES, NO_PLATES, folder)
-    return source, inks
-
-
-def ink_of(line: list[str]) -> Ink:
-    """The ink of a line of the table."""
-    _, name, density, kind, look_text, has_ink, suffix, colorant = line[:8]
-    cyan, magenta, yellow, black = (float(part) for part in look_text.split())
-    look = cyan, magenta, yellow, black
-    role = line[8] if len(line) > 8 else "spot"
-    return Ink(name, from_table(colorant), from_table(suffix), density, kind, look, has_ink == "ink", role=role)
 
 
 def read_layout(page: PageFolder) -> dict[str, Any]:

@@ -5,7 +5,7 @@ import contextlib
 import os
 import time
 from collections.abc import Sequence
-from dataclasses import dataclass
+from typing import NamedTuple
 
 from .errors import PressError, Status
 from .events import PageFailed
@@ -19,20 +19,13 @@ from .settings import Settings
 RACY_NS = 2_000_000_000
 
 
-@dataclass(frozen=True)
-class Input:
+class Input(NamedTuple):
     """The file of a run as it was at the start: its path, what a record keeps of it, and what the system said of it."""
 
     path: str
     file: InputFile
     stamp: tuple[int, ...]
     taken: int
-
-    @classmethod
-    def take(cls, path: str) -> "Input":
-        """The file as it is now. Refuses one that cannot be read."""
-        taken, stamp = time.time_ns(), stamp_of(path)
-        return cls(path, input_file(path), stamp, taken)
 
     def is_untouched(self) -> bool:
         """Whether the system shows that nobody wrote to the file since."""
@@ -50,6 +43,12 @@ class Input:
             return None
         return (f"{self.path}: the file was replaced while it was processed (SHA-256 {self.file.short}.. at the start, "
                 f"{now.short}.. now): no page is done")
+
+
+def take(path: str) -> Input:
+    """The file of a run as it is now. Refuses one that cannot be read."""
+    taken, stamp = time.time_ns(), stamp_of(path)
+    return Input(path, input_file(path), stamp, taken)
 
 
 def stamp_of(path: str) -> tuple[int, ...]:

@@ -8,7 +8,7 @@ from __future__ import annotations
 
 import re
 from collections.abc import Iterator, Mapping
-from dataclasses import dataclass, field, replace
+from dataclasses import dataclass, field, fields, replace
 from typing import Union
 
 SCALE = 10_000
@@ -39,9 +39,8 @@ class Parameters:
     enabled: bool = True
 
 
-KEYS = {"TrapWidth": "trap_width", "BlackWidth": "black_width", "BlackColorLimit": "black_color_limit",
-        "BlackDensityLimit": "black_density_limit", "StepLimit": "step_limit",
-        "SlidingTrapLimit": "sliding_trap_limit", "TrapColorScaling": "trap_color_scaling", "Enabled": "enabled"}
+# The parameters by their keys in a job, TrapWidth and so on.
+KEYS = {one.name.title().replace("_", ""): one.name for one in fields(Parameters)}
 
 
 @dataclass(frozen=True)
@@ -75,6 +74,7 @@ Value = Union[int, bool, None, str, bytes, list["Value"], dict[str, "Value"]]
 TOKEN = re.compile(
     rb"(?P<gap>[\0\t\n\f\r ]+|%[^\n\r\f]*)|(?P<open><<|\[)|(?P<close>>>|\])|/(?P<name>[^\0\t\n\f\r ()<>\[\]{}/%]*)"
     rb"|(?P<text>\()|<(?P<hex>[0-9A-Fa-f\0\t\n\f\r ]*)>|(?P<run>[^\0\t\n\f\r ()<>\[\]{}/%]+)")
+PARENTHESIS = re.compile(rb"\\.|[()]", re.DOTALL)
 NUMBER = re.compile(rb"([+-]?)([0-9]*)(?:\.([0-9]*))?")
 CONSTANTS: Mapping[bytes, Value] = {b"true": True, b"false": False, b"null": None}
 
@@ -126,13 +126,11 @@ def _is_operator(kind: str, spelling: bytes) -> bool:
 
 def _end_of_text(text: bytes, at: int) -> int:
     """The offset after a string in parentheses that begins at `at`."""
-    depth, place = 0, at
-    while place < len(text):
-        byte = text[place:place + 1]
-        depth += {b"(": 1, b")": -1}.get(byte, 0)
-        place += 2 if byte == b"\\" else 1
+    depth = 0
+    for found in PARENTHESIS.finditer(text, at):
+        depth += {b"(": 1, b")": -1}.get(found[0], 0)
         if depth == 0:
-            return place
+            return found.end()
     raise JobSyntaxError("unfinished string", at)
 
 

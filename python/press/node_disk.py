@@ -28,7 +28,7 @@ def run_on(local: str, path: str, out: str, settings: Settings, pages: Sequence[
            observer: Observer = silent) -> RunResult:
     """Makes pages as `run` does, in a folder on the node's own disk, and moves each into OUT, whose record has it then.
     Tasks of other pages may do so at the same time. What an earlier run made of a page stays until then."""
-    given, job = identity.Input.take(path), JobFolder(out)
+    given, job = identity.take(path), JobFolder(out)
     identity.judge(job, job_record.read_record(out), given.file, settings.force, True)
     counts = []
 

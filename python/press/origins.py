@@ -20,8 +20,7 @@ from .zones import base_rule, reach
 
 # The options that decide on zones.
 OPTIONS = ("box", "trap_images", "over_images", "trap_within", "only_zones", "thin_zones")
-LAST = 1 << 30
-DIGITS = 6
+LAST, DIGITS = 1 << 30, 6
 
 
 @dataclass(frozen=True)

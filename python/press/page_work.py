@@ -131,9 +131,7 @@ class PageWork:
             self.warn("press-trap", trapped.warnings)
         if self.settings.tiff:
             with self.step("TIFF files", "press-tiff"):
-                options = tiff.TiffOptions(channels=self.settings.channels, icc=self.settings.icc,
-                                           composite=self.settings.composite, compression=self.settings.compression)
-                tiff.write_tiffs(made, made.file(TIFF), options, self.crew)
+                tiff.write_tiffs(made, made.file(TIFF), tiff.TiffOptions(self.settings), self.crew)
         if self.settings.look:
             with self.step("pictures", "press-look"):
                 look.draw_pictures(made)

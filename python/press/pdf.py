@@ -4,7 +4,7 @@ import io
 import os
 from collections.abc import Iterator, Sequence
 from dataclasses import dataclass, field
-from typing import Any, BinaryIO
+from typing import Any, BinaryIO, NamedTuple
 
 import pikepdf
 
@@ -43,8 +43,7 @@ class PdfSettings:
     decrypt: bool = False
 
 
-@dataclass(frozen=True)
-class PageResult:
+class PageResult(NamedTuple):
     """What was done on a page."""
 
     page: TrappedPage

@@ -7,6 +7,7 @@ import os
 import tempfile
 from collections.abc import Iterator, Sequence
 from dataclasses import asdict, dataclass, replace
+from typing import NamedTuple
 
 import numpy
 
@@ -61,16 +62,14 @@ class Needs:
     disk: int
 
 
-@dataclass(frozen=True)
-class PageReport:
+class PageReport(NamedTuple):
     """What was found in a page that is rendered, and what it takes; None if that is not known."""
 
     findings: tuple[Finding, ...]
     needs: Needs | None = None
 
 
-@dataclass(frozen=True)
-class FileReport:
+class FileReport(NamedTuple):
     """What was found in a file, as press/preflight prints it."""
 
     source: Source

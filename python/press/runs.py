@@ -78,7 +78,7 @@ def opened_file(path: str, settings: Settings, given: identity.Input) -> Iterato
 def taken(path: str) -> identity.Input:
     """The file as it is now; one that is open here already is not read again unless it was written to."""
     known = [one.given for one in OPEN_HERE if one.given.path == path and one.given.is_untouched()]
-    return known[0] if known else identity.Input.take(path)
+    return known[0] if known else identity.take(path)
 
 
 @contextlib.contextmanager

@@ -5,6 +5,7 @@ import itertools
 import math
 from collections.abc import Iterator, Sequence
 from dataclasses import dataclass
+from typing import NamedTuple
 
 from .errors import UsageError
 
@@ -30,8 +31,7 @@ class Screen:
     shape: str = ROUND
 
 
-@dataclass(frozen=True)
-class Cell:
+class Cell(NamedTuple):
     """A supercell: `across` periods to the right and `upward` periods up in a square of `side` pixels."""
 
     across: int

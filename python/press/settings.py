@@ -5,7 +5,7 @@ import dataclasses
 import math
 import os
 import re
-from collections.abc import Callable, Mapping
+from collections.abc import Callable, Mapping, Sequence
 from dataclasses import dataclass, field
 from typing import Any
 
@@ -77,10 +77,20 @@ def factor_of(text: str, what: str) -> float:
     return number(text, 0.0001, 10, what)
 
 
-def share_of(text: str, what: str) -> float:
+def share_of(text: str, what: str, most: int = 1) -> float:
     """A share of 1, or hundredths with a % after them."""
-    digits, percent = (text[:-1], True) if text.endswith("%") else (text, False)
-    return number(digits, 0, 100 if percent else 1, what) / (100 if percent else 1)
+    whole_is = 100 if text.endswith("%") else 1
+    return number(text.removesuffix("%"), 0, most * whole_is, what) / whole_is
+
+
+def one_of(what: str, words: Sequence[str]) -> Callable[[str], str]:
+    """What argparse takes one of some words with."""
+    def read(text: str) -> str:
+        if text not in words:
+            raise UsageError(f"{what} is one of {', '.join(words)}, and not '{text}'")
+        return text
+
+    return read
 
 
 @dataclass(frozen=True)
@@ -252,7 +262,8 @@ class Settings:
             raise UsageError("--tiff-only and --no-tiff do not go together")
         if settings.icc:
             need_press_profile(settings.icc)
-        if not given.get("tiff"):
+        # Plates of another RIP have the resolution of their files.
+        if not isinstance(given.get("tiff"), list):
             need_reach(settings)
             if "dpi" in given:
                 need_keepaway_reach(settings.parameters.get(KEEPAWAY), settings.dpi)
@@ -297,7 +308,7 @@ def add_page_options(parser: argparse.ArgumentParser) -> None:
     add = parser.add_argument
     add("-r", "--dpi", metavar="N", type=whole("--dpi", 1, 10_000),
         help='pixels per inch; the default is 600, and with --tiff that of the files')
-    add("-b", "--box", metavar="BOX", type=box_of,
+    add("-b", "--box", metavar="BOX", type=one_of("--box", BOXES),
         help='which box of the page is rendered: "media" (the default), "crop", "bleed", "trim" or "art"')
     add("-d", "--density", metavar="NAME=D", action="append",
         help="the neutral density of a colorant's full ink, from 0.001 to 10")
@@ -313,12 +324,12 @@ def add_page_options(parser: argparse.ArgumentParser) -> None:
              'zones. Options override a file that makes no zone')
     add("--icc", metavar="FILE",
         help="the profile of the press, by which colours that are not inks are separated, and inks are drawn")
-    add("--output-intent", action="store_true", default=None,
+    add("--output-intent", action="store_true",
         help="takes the profile of the file's own output intent as --icc, if it has one")
-    add("--keep-cmyk", action="store_true", default=None,
+    add("--keep-cmyk", action="store_true",
         help="keeps the numbers of CMYK colours that have a profile of their own; without it they are converted to the "
              "inks of the press. CMYK without a profile keeps its numbers always")
-    add("--total-ink", metavar="SHARE", type=total_of,
+    add("--total-ink", metavar="SHARE", type=lambda text: share_of(text, "--total-ink", 16),
         help="the total ink above which preflight reports the place; the default is 300%%")
     add("-p", "--preset", metavar="NAME",
         help='trapping parameters by a name: "offset", "flexo", "gravure", "screen", or one of the house')
@@ -331,7 +342,7 @@ def add_page_options(parser: argparse.ArgumentParser) -> None:
     add("--slide", metavar="S",
         help="the minimum ratio of densities for the trap to be centred on the edge (a sliding trap): 0.7 or 70%%")
     add("--scale", metavar="S", help="how much of the added ink a trap keeps: 1 or 100%%")
-    add("--trap-images", action="store_true", default=None,
+    add("--trap-images", action="store_true",
         help="traps within images too; without it their places become zones that are not enabled")
     add_zone_options(parser)
     add_time_option(parser)
@@ -344,7 +355,7 @@ def add_ink_options(parser: argparse.ArgumentParser) -> None:
         help="what a colorant is for: process, spot, white, varnish, metallic or technical; its kind and density "
              "follow if they are not given")
     add("--merge", metavar="OLD=KEPT", action="append", help="prints one spot with the plate of another")
-    add("--merge-suffixes", action="store_true", default=None,
+    add("--merge-suffixes", action="store_true",
         help="prints swatches of one number with one plate, such as PANTONE 485 C and PANTONE 485 CVC")
     add("--to-process", metavar="NAME", action="append",
         help="prints a spot with the process inks that the PDF gives for it")
@@ -359,46 +370,19 @@ def add_zone_options(parser: argparse.ArgumentParser) -> None:
         help='a table of pairs of inks: in each line two inks and "under", by which the first spreads under the '
              'second, "never", or a factor of the trap width where they meet, with tabs between them. A file '
              'label.pairs next to label.pdf is used automatically, or else pairs.inks of the house')
-    add("--no-traps-over-images", dest="over_images", action="store_false", default=None,
+    add("--no-traps-over-images", dest="over_images", action="store_false",
         help="does not trap type and line work above images either")
-    add("--trap-within", metavar="BOX", type=within_of,
+    add("--trap-within", metavar="BOX", type=one_of("--trap-within", ("bleed", "trim", "media")),
         help='keeps traps within the page\'s "bleed" or "trim" box, or allows them everywhere with "media". The '
              'default is the bleed box if it is inside the media box, else the trim box if there is one')
-    add("--only-zones", action="store_true", default=None,
+    add("--only-zones", action="store_true",
         help="traps nothing outside the zones of the zones file; without it they are added to the page")
-    add("--no-thin-zones", dest="thin_zones", action="store_false", default=None,
+    add("--no-thin-zones", dest="thin_zones", action="store_false",
         help="gives small type and thin lines the trap width of the page; without it they get a third of their "
              "own thickness")
     add("--layer", metavar="NAME=..", action="append",
         help="parameters for what a layer paints: NAME=off, or NAME=KEY=VALUE[,KEY=VALUE] with the keys of "
              'trap-job(5), such as "White=Enabled=false"')
-
-
-def total_of(text: str) -> float:
-    """A sum of tints: 300% or 3."""
-    digits, percent = (text[:-1], True) if text.endswith("%") else (text, False)
-    return number(digits, 0, 1600 if percent else 16, "--total-ink") / (100 if percent else 1)
-
-
-def within_of(text: str) -> str:
-    """The name of a box that traps may be kept in."""
-    if text not in ("bleed", "trim", "media"):
-        raise UsageError(f"--trap-within is bleed, trim or media, and not '{text}'")
-    return text
-
-
-def box_of(text: str) -> str:
-    """The name of a box."""
-    if text not in BOXES:
-        raise UsageError(f"--box is one of {', '.join(BOXES)}, and not '{text}'")
-    return text
-
-
-def compression_of(text: str) -> str:
-    """How TIFF files are packed."""
-    if text not in COMPRESSIONS:
-        raise UsageError(f"--compression is one of {', '.join(COMPRESSIONS)}, and not '{text}'")
-    return text
 
 
 def add_time_option(parser: argparse.ArgumentParser) -> None:
@@ -411,7 +395,7 @@ def add_engine_options(parser: argparse.ArgumentParser) -> None:
     """The options of the trapping programs."""
     add = parser.add_argument
     add("--workers", metavar="N", type=whole("--workers", 1, 64), help="how many threads the program has, 1 to 64")
-    add("--trap-page", action="store_true", default=None,
+    add("--trap-page", action="store_true",
         help='traps by the program "trap page" in place of "trapsheet": the same result, slower, in 12 bytes of memory '
              'for each sample, for pages of at most 160,000,000 samples')
     add("--band", metavar="B", type=whole("--band", 1, 4096),
@@ -429,11 +413,11 @@ def add_engine_options(parser: argparse.ArgumentParser) -> None:
 
 def add_tiff_options(parser: argparse.ArgumentParser) -> None:
     """The options of TIFF files."""
-    parser.add_argument("--compression", metavar="HOW", type=compression_of,
+    parser.add_argument("--compression", metavar="HOW", type=one_of("--compression", COMPRESSIONS),
                         help='how the separations are packed: "none", "packbits", "lzw" (the default) or "deflate"')
-    parser.add_argument("--composite", action="store_true", default=None,
+    parser.add_argument("--composite", action="store_true",
                         help="writes a file of all inks, NAME.tif, and a picture in RGB, NAME.png, too")
-    parser.add_argument("--channels", action="store_true", default=None,
+    parser.add_argument("--channels", action="store_true",
                         help="writes these too, and makes the spots extra channels of the CMYK page, with their names "
                              "and of no kind of transparency, as image editors and RIPs have them. ImageMagick takes "
                              "the first of them for transparency all the same, and Netpbm reads no such file")
@@ -442,13 +426,13 @@ def add_tiff_options(parser: argparse.ArgumentParser) -> None:
 def add_run_options(parser: argparse.ArgumentParser) -> None:
     """The options of what a run keeps of each page."""
     add = parser.add_argument
-    add("--tiff-only", action="store_true", default=None,
+    add("--tiff-only", action="store_true",
         help="keeps no plates of a finished page, but its TIFF files, job, report, table and preview")
-    add("--no-tiff", dest="tiff", action="store_false", default=None, help="writes no TIFF files")
-    add("--pdf", action="store_true", default=None,
+    add("--no-tiff", dest="tiff", action="store_false", help="writes no TIFF files")
+    add("--pdf", action="store_true",
         help="writes a trapped PDF of all finished pages too, OUT/NAME-trapped.pdf, as press/pdf does")
-    add("--no-proof", dest="proof", action="store_false", default=None, help="writes no preview")
-    add("--look", action="store_true", default=None,
+    add("--no-proof", dest="proof", action="store_false", help="writes no preview")
+    add("--look", action="store_true",
         help="draws pictures of each page too, by press/look: page.png, traps.png, and register.png, the part with "
              "most traps out of register")
 
@@ -466,6 +450,6 @@ def add_page_choice(parser: argparse.ArgumentParser) -> None:
     add = parser.add_argument
     add("-P", "--page", metavar="K", action="append",
         help="this page alone; also J-K, and several with commas between them")
-    add("-s", "--strict", action="store_true", default=None, help="treats warnings as errors")
+    add("-s", "--strict", action="store_true", help="treats warnings as errors")
     add("-j", "--jobs", metavar="N", type=whole("--jobs", 1, MOST_JOBS),
         help="how many pages are made at once; the default is 1")

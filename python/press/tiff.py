@@ -25,6 +25,7 @@ from .names import PROCESS, readable
 from .output_report import coverage, file_figures, write_report
 from .plates import Array, Plates
 from .separation_tiff import STRIP_BYTES, needs_big, write_separation
+from .settings import Settings
 
 LEVEL = 6
 MAXVALS = (255, 65_535)
@@ -37,23 +38,20 @@ CMYK_INKS, UPRIGHT = 1, 1
 
 @dataclass(frozen=True)
 class TiffOptions:
-    """What the TIFF files are made of: the name that they have, or None for the PDF's and the page's; the trapped
-    plates or those from the PDF; whether there are a file of all inks and a picture too, and in that file spots as
-    channels of the CMYK page; the press's profile for the picture; and how separations are packed."""
+    """What the TIFF files are made of, beside the settings: the name that they have, or None for the PDF's and the
+    page's; the trapped plates or those from the PDF; whether there are a file of channels and a report too."""
 
+    settings: Settings = Settings()
     name: str | None = None
     trapped: bool = True
-    channels: bool = False
-    icc: str | None = None
     multi: bool = False
     report: bool = False
-    composite: bool = False
-    compression: str = "lzw"
 
 
 def write_tiffs(page: PageFolder, out: str, options: TiffOptions, crew: Crew = ALONE) -> None:
     """Writes the TIFF files of a page into the folder `out`, which is made if it is not there, several separations at
     once if the crew can. Files of these names are replaced when all are written."""
+    settings = options.settings
     if options.trapped:
         page.need_trapped()
     if page.head.maxval not in MAXVALS:
@@ -63,18 +61,18 @@ def write_tiffs(page: PageFolder, out: str, options: TiffOptions, crew: Crew = A
     name = os.fsencode(options.name or f"{stem}-{page.source.page}")
     if b"/" in name or name in (b"", b".", b".."):
         raise UsageError(f"--name is a file's name, and not '{os.fsdecode(name)}'")
-    if options.icc:
-        picture.need_profile(options.icc)
+    if settings.icc:
+        picture.need_profile(settings.icc)
     os.makedirs(out, exist_ok=True)
     plates = page.plates(options.trapped)
     with folder_beside(out, inside=True) as made:
         inside = os.path.join(os.fsencode(made), name)
         crew.each([functools.partial(write_separation, inside + b"(" + ink.suffix + b").tif", array,
-                                     page.source.resolution, options.compression)
+                                     page.source.resolution, settings.compression)
                    for ink, array in zip(page.inks, plates.arrays)])
-        if options.composite or options.channels:
-            write_composite(inside + b".tif", page.inks, plates, options.channels)
-            picture.write_overview(inside + b".png", page, options.trapped, options.icc)
+        if settings.composite or settings.channels:
+            write_composite(inside + b".tif", page.inks, plates, settings.channels)
+            picture.write_overview(inside + b".png", page, options.trapped, settings.icc)
         if options.multi:
             write_multi(inside + b"-multi.tif", page, plates)
         if options.report:

@@ -2,6 +2,7 @@
 """A trapped page for the outputs: its plates before and after, and how they were drawn."""
 import os
 from dataclasses import dataclass
+from typing import NamedTuple
 
 from .errors import PressError, Status
 from .folder import PageFolder
@@ -9,8 +10,7 @@ from .job_record import OPTIONS, page_of, read_record
 from .plates import Plates
 
 
-@dataclass(frozen=True)
-class Drawn:
+class Drawn(NamedTuple):
     """How the page was drawn, so far as its folder records it: the box, the digest of the file, the press's profile,
     and whether the file's own output intent was taken for that."""
 

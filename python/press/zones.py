@@ -10,6 +10,7 @@ from __future__ import annotations
 import math
 from collections.abc import Iterator, Mapping, Sequence
 from dataclasses import dataclass, field, fields, replace
+from typing import NamedTuple
 
 from .rects import NOTHING, Rect
 from .job import Reading, Statement, ZoneParameters, decimal, read
@@ -71,8 +72,7 @@ class Wanted:
         return Rect(0, 0, *self.size)
 
 
-@dataclass(frozen=True)
-class Piece:
+class Piece(NamedTuple):
     """A zone of the press room as data: its shape, what holds in it, and why it is there."""
 
     shape: Shape
