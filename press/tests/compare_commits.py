@@ -12,12 +12,14 @@ the status is 1 then. Times and sizes on the disk in printed lines are left asid
   --small, --hostile, --inputs   these files alone; all where none of these options is given
   --both OPTION an option that both commits are given, --both=--width=2pt say; it may be given several times
   --two OPTION  the same for the second commit alone, --two=--no-thin-zones say, by which it does what the first one does
+  --two-all OPTION   the same for its press/all alone, --two-all=--composite say, which press/check does not have
   --aside NAME  files of this name are left aside; it may be given several times
   --keep DIR    keeps in DIR what the commits made
 """
 import argparse
 import base64
 import io
+import json
 import os
 import re
 import shutil
@@ -27,6 +29,7 @@ import tempfile
 from collections.abc import Iterator
 from concurrent.futures import ThreadPoolExecutor
 from pathlib import Path
+from typing import Any
 
 sys.dont_write_bytecode = True
 HERE = Path(__file__).resolve().parent
@@ -109,6 +112,15 @@ def sheets_differ(one: str, two: str) -> str | None:
     return None
 
 
+def data_differ(one: Any, two: Any) -> str | None:
+    """How two texts of JSON differ, or None: that the second one has more keys is said with their names."""
+    both = isinstance(one, dict) and isinstance(two, dict)
+    more = sorted(two.keys() - one.keys()) if both else []
+    if both and one == {key: value for key, value in two.items() if key not in more}:
+        return f"only the second has {', '.join(more)}" if more else None
+    return None if one == two else "text"
+
+
 def files_differ(one: Path, two: Path) -> str | None:
     """How two files of page folders differ, or None."""
     if one.suffix == ".tif":
@@ -117,6 +129,8 @@ def files_differ(one: Path, two: Path) -> str | None:
         return pictures_differ(one.read_bytes(), two.read_bytes())
     if one.suffix == ".html" or one.name == "proof.part":
         return sheets_differ(one.read_text(), two.read_text())
+    if one.suffix == ".json":
+        return data_differ(*(json.loads(path.read_text(errors="surrogateescape")) for path in (one, two)))
     if one.suffix == ".pgm":
         return None if one.read_bytes() == two.read_bytes() else "bytes"
     texts = [text_of(path.read_text(errors="surrogateescape")) for path in (one, two)]
@@ -175,7 +189,7 @@ def compare(name: str, inputs: Path, commits: tuple[Commit, Commit], options: ar
     found = []
     for command, words in (("check", ["--dpi", options.dpi, *options.both]), ("all", ["--dpi", options.dpi, *options.both, "--look"])):
         ends = []
-        for commit, own in zip(commits, ([], options.two_options)):
+        for commit, own in zip(commits, ([], options.two_options + options.two_all * (command == "all"))):
             place = [os.path.relpath(commit.out / name, inputs)] if command == "all" else []
             ends.append(commit.run(command, inputs, [*words, *own, "--", name, *place]))
             ends[-1].stdout, ends[-1].stderr = (text.replace(place[0], "OUT") if place else text
@@ -214,6 +228,7 @@ def parsed() -> argparse.Namespace:
     parser.add_argument("--only", action="append")
     parser.add_argument("--both", action="append", default=[])
     parser.add_argument("--two", action="append", dest="two_options", default=[])
+    parser.add_argument("--two-all", action="append", default=[])
     parser.add_argument("--aside", action="append", default=[])
     parser.add_argument("--keep", type=Path)
     for name in ("--small", "--hostile", "--inputs"):

@@ -21,17 +21,17 @@ PAIRS = {"blue-on-red": ("0 .94 .94 0", "1 .6 0 .2"), "magenta-on-cyan": ("1 0 0
          "yellow-on-blue": ("1 .5 0 0", "0 0 1 0")}
 WIDTH, ROW, LINE = 190, 15, "Hamburgefonstiv 0123 eagl"
 HEIGHT = ROW * len(SIZES) * len(FONTS) + 12
-# The least own share, the largest halo and the largest share of gaps, by size.
+# The least own share, the largest halo and the largest share of gaps, by size, with two decimals.
 REACHED = {
-    ("blue-on-red", "offset"): ((.33, 0, .11), (.38, 0, .07), (.40, 0, 0), (.52, 0, 0)),
-    ("blue-on-red", "flexo"): ((.33, 0, .12), (.39, 0, .07), (.36, 0, 0), (.36, 0, 0)),
-    ("yellow-on-blue", "offset"): ((1, .73, .20), (1, .66, .11), (1, .63, .01), (1, .50, 0)),
-    ("yellow-on-blue", "flexo"): ((1, .72, .20), (1, .66, .11), (1, .68, .01), (1, .69, 0)),
-    ("magenta-on-cyan", "offset"): ((.42, .61, .12), (.56, .46, 0), (.66, .35, 0), (.77, .24, 0)),
-    ("magenta-on-cyan", "flexo"): ((.40, .64, .12), (.39, .66, 0), (.41, .62, 0), (.51, .52, 0)),
+    ("blue-on-red", "offset", 600): ((.33, 0, .11), (.38, 0, .07), (.40, 0, 0), (.52, 0, 0)),
+    ("blue-on-red", "flexo", 600): ((.33, 0, .12), (.39, 0, .07), (.36, 0, 0), (.36, 0, 0)),
+    ("blue-on-red", "offset", 1200): ((.37, 0, .02), (.36, 0, 0), (.44, 0, 0), (.54, 0, 0)),
+    ("blue-on-red", "flexo", 1200): ((.45, 0, .02), (.36, 0, 0), (.37, 0, 0), (.37, 0, 0)),
+    ("yellow-on-blue", "offset", 600): ((1, .73, .20), (1, .66, .11), (1, .63, .01), (1, .50, 0)),
+    ("yellow-on-blue", "flexo", 600): ((1, .72, .20), (1, .66, .11), (1, .68, .01), (1, .69, 0)),
+    ("magenta-on-cyan", "offset", 600): ((.42, .61, .12), (.56, .46, 0), (.66, .35, 0), (.77, .24, 0)),
+    ("magenta-on-cyan", "flexo", 600): ((.40, .64, .12), (.39, .66, 0), (.41, .62, 0), (.51, .52, 0)),
 }
-# What the figures of the table are rounded by, and a little for the faces of another Ghostscript.
-ROUNDING = 0.006
 
 
 @dataclass(frozen=True)
@@ -61,9 +61,9 @@ def rows() -> list[tuple[int, int, int]]:
     return [(font, size, HEIGHT - 6 - ROW * (at + 1)) for at, (font, size) in enumerate(places)]
 
 
-def trapped(room: Room, path: Path, preset: str, *options: str) -> Trapped:
-    """A page that was trapped at 600 dpi."""
-    room.goes("plates", path, "page", "--force", "--dpi", "600", "--preset", preset, *options)
+def trapped(room: Room, path: Path, preset: str, *options: str, dpi: int = 600) -> Trapped:
+    """A page that was trapped at a resolution."""
+    room.goes("plates", path, "page", "--force", "--dpi", str(dpi), "--preset", preset, *options)
     room.goes("trap", "page")
     page = PageFolder.read(str(room / "page"))
     before, after = (np.stack([255 - array for array in page.plates(done).arrays]) for done in (False, True))
@@ -90,8 +90,8 @@ def gaps(tints: np.ndarray, page: Trapped) -> np.ndarray:
     return found
 
 
-def figures(page: Trapped) -> list[tuple[float, float, float]]:
-    """Own share, halo and gaps of each group of sizes."""
+def figures(page: Trapped, dpi: int) -> list[tuple[float, float, float]]:
+    """Own share, halo and gaps of each group of sizes, with the two decimals of the table."""
     changed = (page.before != page.after).any(axis=0)
     kind = (page.before != page.before[:, 2, 2][:, None, None]).any(axis=0)
     open_before, open_after = gaps(page.before, page), gaps(page.after, page)
@@ -100,23 +100,24 @@ def figures(page: Trapped) -> list[tuple[float, float, float]]:
         sums = np.zeros(5)
         for _, size, lower in rows():
             if size in group:
-                part = np.s_[int(kind.shape[0] - (lower + ROW) * 600 / 72):int(kind.shape[0] - lower * 600 / 72), 16:-16]
+                rows_of = slice(*(int(kind.shape[0] - place * dpi / 72) for place in (lower + ROW, lower)))
+                part = np.s_[rows_of, 16:-16]
                 own, other = kind[part], changed[part]
                 sums += [own.sum(), (own & other).sum(), (other & ~own).sum(), open_before[part].sum(),
                          open_after[part].sum()]
-        found.append((1 - sums[1] / sums[0], sums[2] / sums[0], sums[4] / sums[3]))
+        found.append((round(1 - sums[1] / sums[0], 2), round(sums[2] / sums[0], 2), round(sums[4] / sums[3], 2)))
     return found
 
 
-@pytest.mark.parametrize("pair, preset", REACHED)
-def test_drawn_type_is_as_good_as_the_prototype(room: Room, built: None, pair: str, preset: str) -> None:
+@pytest.mark.parametrize("pair, preset, dpi", REACHED)
+def test_drawn_type_is_as_good_as_the_prototype(room: Room, built: None, pair: str, preset: str, dpi: int) -> None:
     ground, ink = PAIRS[pair]
     lines = [f"{ground} k 0 0 {WIDTH} {HEIGHT} re f {ink} k"]
     lines += [f"BT /F{font} {size} Tf 6 {lower + 3.5} Td ({LINE}) Tj ET" for font, size, lower in rows()]
-    page = trapped(room, drawn(room / "type.pdf", "\n".join(lines), (WIDTH, HEIGHT)), preset)
-    for group, (own, halo, gap), (least, most_halo, most_gaps) in zip(GROUPS, figures(page), REACHED[pair, preset]):
-        told = f"{group}: own {own:.3f}, halo {halo:.3f}, gaps {gap:.3f}"
-        assert own >= least - ROUNDING and halo <= most_halo + ROUNDING and gap <= most_gaps + ROUNDING, told
+    page = trapped(room, drawn(room / "type.pdf", "\n".join(lines), (WIDTH, HEIGHT)), preset, dpi=dpi)
+    for group, found, wanted in zip(GROUPS, figures(page, dpi), REACHED[pair, preset, dpi]):
+        (own, halo, gap), (least, most_halo, most_gaps) = found, wanted
+        assert own >= least and halo <= most_halo and gap <= most_gaps, (group, found, wanted)
 
 
 @pytest.mark.parametrize("preset", ["offset", "flexo"])

@@ -229,6 +229,18 @@ def test_within_skipped_boxes_nothing_is_looked_at():
     assert [part.box for part in found] == [Box(20, 40, 380, 44)]
 
 
+def test_specks_are_pieces_of_strokes_but_not_grain():
+    """A pixel that touches a stroke by a corner is found as a part of its own. Where most parts are specks, they are
+    grain."""
+    plates = page(200, 300, RED)
+    bar(plates, 50, 40, 200, 4, BLUE)
+    bar(plates, 250, 44, 1, 1, BLUE)
+    assert sorted(part.area for part in parts_of(plates)) == [1, 800]
+    for place in range(20):
+        bar(plates, 50 + 10 * place, 100, 1, 1, BLUE)
+    assert [part.area for part in parts_of(plates)] == [800]
+
+
 def test_strips_are_joined(monkeypatch):
     """A page of many strips has the parts of the page as a whole: a long stroke is one part, with all of its area."""
     plates = page(1500, 300, RED)

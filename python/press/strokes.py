@@ -33,9 +33,9 @@ LEAST_OUTLINE = 0.25
 # A part that fills less than this share of its box is covered by tiles, so that the zone leaves alone what the
 # part surrounds.
 SPARSE = 0.2
-# A part of fewer pixels is grain, no stroke. What is attached to a thick shape has an outline of so many
-# thicknesses.
-LEAST_AREA = 3
+# A part of fewer pixels is a speck: a piece of a slanted stroke, or grain where there are more specks than strokes.
+SPECK = 3
+# What is attached to a thick shape has an outline of so many thicknesses.
 LONG = 6
 TILE_WIDTHS = 8
 STRIP_ROWS = 256
@@ -329,7 +329,6 @@ class Finder:
         kept = (2 * tallies.black <= tallies.area) & (2 * tallies.at_black < outline)
         kept &= tallies.calls > LEAST_OUTLINE * outline
         kept &= thickness < np.where(slides, self.least_thick / 2, self.least_thick)
-        kept &= tallies.area >= LEAST_AREA
         free = tallies.attached == 0
         receives = 2 * (tallies.darker + tallies.slides) > tallies.calls
         long = tallies.outline > LONG * np.maximum(thickness, self.pixels)
@@ -546,9 +545,11 @@ class WindowRuns:
 def find_strokes(planes: Sequence[Plane], inks: Sequence[Ink], rule: Rule, resolution: int,
                  skip: Sequence[Box] = ()) -> list[Part]:
     """The thin parts of a page: connected pixels whose stroke is below three trap widths and whose outline is
-    trapped.
+    trapped. If more than half of them are specks, the specks are left out.
 
     `planes` are rows by columns, 0 is full ink. Within the boxes of `skip`, those of images say, nothing is
     looked at.
     """
-    return list(Finder(planes, inks, rule, resolution, skip).parts())
+    parts = list(Finder(planes, inks, rule, resolution, skip).parts())
+    strokes = [part for part in parts if part.area >= SPECK]
+    return parts if len(parts) <= 2 * len(strokes) else strokes
