@@ -178,6 +178,22 @@ def test_again_takes_the_recorded_options(room: Room) -> None:
     room.refused(4, "press-farm: none: no run was here that could be gone on with", "farm", "--again", "three.pdf", "none")
 
 
+def test_a_file_that_is_replaced_while_a_farm_is_at_work(room: Room) -> None:
+    """No page is kept as done, those that had ended before neither, and --again is refused; a new run makes all pages."""
+    room.sample("three.pdf", "two.pdf")
+    program = os.path.realpath(room.programs / "trapsheet")
+    room.script("trapsheet", f'#!/bin/sh\n! grep -q "Page 2 of" page.job || cp "{room / "two.pdf"}" "{room / "three.pdf"}"\nexec "{program}" "$@"\n')
+    done = room.run("farm", *QUIET, "--jobs", "1", "three.pdf", "out", env={"TRAP_BIN": str(room.beside / "stand-ins")})
+    last = dict(re.findall(r"^page (\d): (.*)", done.out, re.M))
+    assert done.status == 1 and sorted(last) == ["1", "2", "3"], done
+    assert all(why.startswith("failed: press-all: three.pdf: the file was replaced while it was processed (SHA-256 ") for why in last.values()), done
+    assert "press-all: out: three.pdf has other bytes than at the start" in done.err
+    assert sorted(path.name for path in (room / "out").glob("page-*")) == ["page-001.failed", "page-002.failed"]
+    assert room.run("farm", *QUIET, "--again", "three.pdf", "out").status == 8
+    room.goes("farm", *QUIET, "three.pdf", "out")
+    assert sorted(path.name for path in (room / "out").glob("page-*")) == ["page-001"]
+
+
 def test_json_lines(room: Room) -> None:
     """With --json there is an object for each event: a machine that is left out, each page's steps and end, the end."""
     room.sample("three.pdf")

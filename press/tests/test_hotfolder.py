@@ -1,7 +1,9 @@
 # SPDX-License-Identifier: Apache-2.0
 """The parts of a hot folder: what is ready, the queue on disk, which is killed before each of its steps, the configuration file, the log."""
+import errno
 import json
 import os
+from collections.abc import Iterator
 from contextlib import ExitStack
 from dataclasses import replace
 from pathlib import Path
@@ -12,9 +14,10 @@ import pytest
 from document_blocks import Block, every_block
 from press.errors import PressError, Status
 from press.events import PageDone
-from press.hotfolder import jobs, watching
+from press import files
+from press.hotfolder import arrivals, jobs, status, watching
 from press.hotfolder.arrivals import Arrivals, is_held, lacks_end
-from press.hotfolder.claims import claim, claims
+from press.hotfolder.claims import Claim, claim, claims
 from press.hotfolder.config import Config, HotFolder, LogFile, read_config
 from press.hotfolder.journal import Journal
 from press.hotfolder.status import status_of
@@ -204,6 +207,73 @@ def test_full_disk(tmp_path: Path, fake_run: None, monkeypatch: pytest.MonkeyPat
     assert "done: File exists: tried again" in "\n".join(said)
 
 
+def test_a_file_that_cannot_be_moved(tmp_path: Path, fake_run: None, monkeypatch: pytest.MonkeyPatch) -> None:
+    """A file that the system does not let go holds up no other one, and leaves no claim. It is claimed when it can be."""
+    said, real, held = [], os.rename, [tmp_path / "a.pdf"]
+    monkeypatch.setattr(watching, "AGAIN", 0)
+    monkeypatch.setattr(Journal, "write", lambda _, text: said.append(text))
+
+    def rename(one: Any, other: Any) -> None:
+        if Path(one) in held:
+            raise PermissionError(errno.EPERM, "Operation not permitted", one)
+        real(one, other)
+
+    monkeypatch.setattr(watching.os, "rename", rename)
+    hot = hot_folder(tmp_path)
+    for name in ("a.pdf", "b.pdf"):
+        (tmp_path / name).write_bytes(WHOLE)
+    station = Station(hot, Journal())
+    while not (tmp_path / "done/b").exists():
+        station.turn()
+    station.turn()
+    assert (tmp_path / "a.pdf").exists() and not os.listdir(tmp_path / ".claimed")
+    assert f"a.pdf: {tmp_path}/a.pdf: Operation not permitted: tried again in 0 s" in "\n".join(said)
+    held.clear()
+    while not (tmp_path / "done/a").exists():
+        station.turn()
+
+
+def test_disk_without_room_for_a_claim(tmp_path: Path, fake_run: None, monkeypatch: pytest.MonkeyPatch) -> None:
+    """The watch goes on, says once why nothing is taken, and leaves no claim."""
+    said, is_full = [], [True]
+    monkeypatch.setattr(Journal, "__call__", lambda _, event, *words, **more: said.append(event))
+    real = files.tempfile.mkstemp
+
+    def mkstemp(*words: Any, **more: Any) -> Any:
+        if is_full[0]:
+            raise OSError(errno.ENOSPC, "No space left on device")
+        return real(*words, **more)
+
+    monkeypatch.setattr(files.tempfile, "mkstemp", mkstemp)
+    (tmp_path / "a.pdf").write_bytes(WHOLE)
+    station = Station(hot_folder(tmp_path), Journal())
+    for _ in range(3):
+        station.turn()
+    assert said == ["lost"] and (tmp_path / "a.pdf").exists() and not os.listdir(tmp_path / ".claimed")
+    is_full[0] = False
+    while not (tmp_path / "done/a").exists():
+        station.turn()
+    assert said == ["lost", "taken", "done"]
+
+
+def test_a_file_that_cannot_be_read(tmp_path: Path, fake_run: None, monkeypatch: pytest.MonkeyPatch) -> None:
+    """A file of somebody else is waited for, and then refused with the reason; others go on meanwhile."""
+    now, real = [0.0], os.access
+    monkeypatch.setattr(arrivals.os, "access", lambda path, how: not str(path).endswith("a.pdf") and real(path, how))
+    hot = hot_folder(tmp_path)
+    for name in ("a.pdf", "b.pdf"):
+        (tmp_path / name).write_bytes(WHOLE)
+    station = Station(hot, Journal())
+    station.arrivals = Arrivals(hot, lambda: now[0])
+    while not (tmp_path / "done/b").exists():
+        station.turn()
+    assert (tmp_path / "a.pdf").exists()
+    now[0] = hot.wait
+    while not (tmp_path / "failed/a").exists():
+        station.turn()
+    assert (tmp_path / "failed/a/why.txt").read_text() == "it cannot be read: Permission denied\n"
+
+
 # The configuration file
 
 CONFIG = """
@@ -296,6 +366,21 @@ def test_status(tmp_path: Path, fake_run: None) -> None:
     assert (found["waiting"], found["done"], found["failed"], found["watched_by"]) == (["b.pdf"], 1, 1, None)
     assert [(one["name"], one["state"]) for one in found["claimed"]] == [("c\n.pdf", "claimed")]
     assert found["last_failure"]["why"].startswith("no page: PDF")
+
+
+def test_status_while_a_file_is_filed(tmp_path: Path, monkeypatch: pytest.MonkeyPatch) -> None:
+    """A claim that is closed while the status is read is left out."""
+    hot = hot_folder(tmp_path)
+    (tmp_path / "a.pdf").write_bytes(WHOLE)
+    claim(hot, "a.pdf")
+
+    def filed(folder: HotFolder) -> Iterator[Claim]:
+        for one in claims(folder):
+            one.close()
+            yield one
+
+    monkeypatch.setattr(status, "claims", filed)
+    assert status_of(hot)["claimed"] == []
 
 
 def test_another_file_system(tmp_path: Path, monkeypatch: pytest.MonkeyPatch) -> None:

@@ -1,5 +1,6 @@
 # SPDX-License-Identifier: Apache-2.0
 """A hot folder: what is taken and what is not, names with anything in them, and a watch that is stopped."""
+import configparser
 import json
 import os
 import re
@@ -8,7 +9,7 @@ from pathlib import Path
 from typing import Iterator
 
 import pytest
-from room import LABEL, Room, needs
+from room import LABEL, TOP, Room, needs
 from watch_soak import colour, soak, version
 
 pytestmark = [pytest.mark.usefixtures("built"), needs("mutool")]
@@ -294,6 +295,23 @@ def test_usage(room: Room) -> None:
     room.refused(4, r"press-watch: none: No such directory", "watch", "--status", "none")
     (room.beside / "house/watch.toml").write_text('[[folder]]\npath = "none"\n')
     room.refused(4, rf"press-watch: {room.beside}/house/none: No such directory", "watch")
+
+
+def test_systemd_unit(room: Room, hot: Hot) -> None:
+    """The unit of the Debian package starts the installed command with the user's watch.toml, stops it by SIGTERM alone, and starts it
+    again if it was killed."""
+    unit = configparser.ConfigParser(strict=False, interpolation=None)
+    unit.read(TOP / "debian" / "trap.press-watch@.service")
+    program, *arguments = unit["Service"]["ExecStart"].split()
+    assert (program, arguments) == ("/usr/bin/press", ["watch"])
+    assert [unit["Service"][key] for key in ("User", "KillMode", "Restart")] == ["%i", "mixed", "on-failure"]
+    assert unit["Unit"]["Documentation"] == "man:press-watch(1)" and (TOP / "man" / "press-watch.1").is_file()
+    home = room.beside / "home"
+    (home / ".config/press").mkdir(parents=True)
+    (home / ".config/press/watch.toml").write_text(f"[[folder]]\npath = '{hot.folder}'\n")
+    hot.child = room.start("press", *arguments, env={"HOME": str(home), "PRESS_HOUSE": None})
+    room.wait_until(lambda: f"watching {hot.folder}\n" in room.complained(), "it does not watch", hot.child)
+    hot.stop()
 
 
 def test_small_soak(tmp_path: Path, built: None) -> None:

@@ -255,8 +255,9 @@ def make_pages(farm: Farm, given: identity.Input, plan: Plan, progress: FarmLine
     with slots(opened, environment, plan.need // 2):
         status = hand_out(words, page_commands(farm, plan.pages, progress.is_json, scratch), environment, progress)
     lost = lost_pages(farm, plan.pages, todo, progress)
+    line = given.changed_line() if lost else None
     for page, why in lost.items():
-        progress.page(f"page {page}: failed: {why} (--again does the page)")
+        progress.page(f"page {page}: failed: " + (f"press-all: {line}" if line else f"{why} (--again does the page)"))
     if lost:
         amend_log(farm.out, plan.pages, lost)
     return bool(status or lost)

@@ -218,7 +218,10 @@ def run(path: str, out: str, settings: Settings = Settings(), pages: Sequence[in
     that is done is in OUT/page-001 and so on. Refuses a file that cannot be read; a page that fails is in
     the result."""
     given, job = taken(path), JobFolder(out)
-    identity.judge(job, job_record.read_record(out), given.file, settings.force, bool(pages))
+    if is_held(out):
+        identity.need_same(job, given.file)
+    else:
+        identity.judge(job, job_record.read_record(out), given.file, settings.force, bool(pages))
     engine.trapping_program(settings)
     with opened_file(path, settings, given) as opened:
         source = opened.source
@@ -235,7 +238,8 @@ def run(path: str, out: str, settings: Settings = Settings(), pages: Sequence[in
         found = check_file(source, settings, book, numbers, tell)
         job.make()
         with page_locks(job, pages):
-            begin(job, given, source.count, settings, pages)
+            if not is_held(out):
+                identity.claim(job, given.file, source.count, settings, pages)
             with contextlib.closing(budget_of(settings, len(numbers))) as budget:
                 todo = [PageWork(given, source, settings, book, job, list(found), number, silent, budget)
                         for number in numbers]
@@ -252,14 +256,6 @@ def budget_of(settings: Settings, pages: int) -> crew.Budget:
     """The processors that the pages of a run may use beside one for each that is at work."""
     share = crew.share_of(os.environ[crew.AT_ONCE]) if crew.AT_ONCE in os.environ else crew.processors()
     return crew.Budget(share - min(settings.jobs, pages))
-
-
-def begin(job: JobFolder, given: identity.Input, count: int, settings: Settings, pages: Sequence[int]) -> None:
-    """Makes OUT the folder of this file. A farm has done so for the runs of its pages."""
-    if is_held(job.path):
-        identity.need_same(job, given.file)
-    else:
-        identity.claim(job, given.file, count, settings, pages)
 
 
 def finish(given: identity.Input, todo: Sequence[PageWork], ends: dict[int, PageDone | PageFailed],

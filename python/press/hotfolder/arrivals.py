@@ -79,7 +79,7 @@ class Arrivals:
         if held is not False and is_open(path):
             return None
         # A writer that is not seen from here may hold it, or may have paused.
-        is_in_doubt = held or lacks_end(path) is not None
+        is_in_doubt = held or fault_in(path) is not None
         return None if is_in_doubt and still < max(self.hot.wait, self.hot.settle) else Ready(name)
 
 
@@ -144,6 +144,14 @@ def is_open(path: str) -> bool:
 
 
 # Whether it is complete
+
+def fault_in(path: str) -> str | None:
+    """Why the bytes of a file are no page, as far as that is seen before it is opened; or None."""
+    if not os.access(path, os.R_OK):
+        return "it cannot be read: Permission denied"
+    lack = lacks_end(path)
+    return f"incomplete: {lack}" if lack else None
+
 
 def lacks_end(path: str) -> str | None:
     """Why a file is incomplete, as far as its first and last bytes say; or None. PostScript without comments has no

@@ -17,6 +17,7 @@ import time
 from collections.abc import Iterator
 from dataclasses import dataclass
 
+from ..errors import PressError
 from ..files import write_text
 from .config import HotFolder
 
@@ -136,15 +137,18 @@ class Claim:
 
 
 def claim(hot: HotFolder, name: str) -> Claim | None:
-    """Claims a file by renaming it. Nothing, if it is not there any more."""
+    """Claims a file by renaming it. Nothing, if it is not there any more. Refuses one that cannot be renamed, with the
+    system's reason."""
     made = Claim(hot, new_folder(os.path.join(hot.path, CLAIMED)), name)
-    write_text(made.place(NAME), name, "surrogateescape")
-    os.mkdir(made.place("in"))
     try:
+        write_text(made.place(NAME), name, "surrogateescape")
+        os.mkdir(made.place("in"))
         os.rename(os.path.join(hot.path, name), made.file)
-    except FileNotFoundError:
+    except (OSError, PressError) as fault:
         made.close()
-        return None
+        if isinstance(fault, FileNotFoundError):
+            return None
+        raise
     return made
 
 

@@ -17,7 +17,7 @@ from ..job_record import RECORD
 from ..names import clean
 from ..printing import RunLines, end_line
 from ..runs import RunResult, run
-from .arrivals import fault_of, lacks_end
+from .arrivals import fault_in, fault_of
 from .claims import WHY, Claim, Signature, signature
 from .report import PAGES, write_report
 
@@ -65,10 +65,7 @@ class Job:
 
     def __init__(self, claim: Claim, tell: Callable[[Event], None]) -> None:
         self.claim, self.tell = claim, tell
-        self.fault = fault_of(claim.file)
-        if self.fault is None:
-            lack = lacks_end(claim.file)
-            self.fault = f"incomplete: {lack}" if lack else None
+        self.fault = fault_of(claim.file) or fault_in(claim.file)
         self.sign: Signature = signature(claim.file)
         self.attempt = claim.begin()
         self.why: str | None = self.fault

@@ -47,7 +47,11 @@ def status_of(hot: HotFolder) -> dict[str, Any]:
     if not os.path.lexists(hot.path):
         raise PressError(Status.INPUT, "No such directory", hot.path)
     need_folder(hot.path)
-    work = [{"name": one.name, "state": one.state, "since": round(one.since, 3)} for one in claims(hot) if one.name]
+    work = []
+    for one in claims(hot):
+        # It may be filed meanwhile.
+        with contextlib.suppress(FileNotFoundError):
+            work += [{"name": one.name, "state": one.state, "since": round(one.since, 3)}] if one.name else []
     failed = folders_in(hot.failed)
     return {"folder": hot.path, "watched_by": holder_of(os.path.join(hot.path, LOCK)),
             "waiting": Arrivals(hot).look(), "claimed": work, "done": len(folders_in(hot.done)),

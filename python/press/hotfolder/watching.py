@@ -10,7 +10,7 @@ from typing import Any
 from .. import engine, tools
 from ..errors import PressError, Status, reason
 from ..events import Event
-from ..files import LOCK, locked, need_folder, sweep
+from ..files import LOCK, is_full, locked, need_folder, sweep
 from ..folder import read_text
 from .arrivals import Arrivals, is_written
 from .claims import CLAIMED, FILED, STATES, WHY, Claim, claim, claimed_name, claims
@@ -34,6 +34,8 @@ class Station:
         self.jobs: list[Job] = []
         self.commands: list[Afterwards] = []
         self.later: list[tuple[float, Claim]] = []
+        # Files that cannot be moved, and when each is tried again.
+        self.stuck: dict[str, float] = {}
         self.is_lost = False
 
     def say(self, event: str, name: str | None = None, **more: Any) -> None:
@@ -61,7 +63,7 @@ class Station:
         free = room - len(self.waiting) - len(self.later)
         if free > 0:
             for ready in self.arrivals.ready():
-                one = claim(self.hot, ready.name)
+                one = self.claim(ready.name)
                 if one:
                     self.say("taken", one.name, again=False, id=os.path.basename(one.path))
                     self.waiting.append(one)
@@ -70,6 +72,18 @@ class Station:
                     break
         for one in [self.waiting.pop(0) for _ in range(min(room, len(self.waiting)))]:
             self.attempt(self.begin, one)
+
+    def claim(self, name: str) -> Claim | None:
+        """Claims a file, if it can be moved. One that cannot is tried again later, and holds up no other."""
+        if self.stuck.get(name, 0) > time.monotonic():
+            return None
+        try:
+            return claim(self.hot, name)
+        except OSError as fault:
+            if is_full(fault):
+                raise
+            self.stuck[name] = self.refused(name, fault)
+            return None
 
     def begin(self, one: Claim) -> None:
         """Starts a file that was claimed, unless its writer still has it open."""
@@ -126,10 +140,14 @@ class Station:
         try:
             step(one)
         except (OSError, PressError) as fault:
-            named = getattr(fault, "filename", None)
-            place = f"{os.fsdecode(named)}: " if isinstance(named, (str, bytes)) else ""
-            self.say("refused", one.name, text=f"{place}{reason(fault)}: tried again in {AGAIN} s")
-            self.later.append((time.monotonic() + AGAIN, one))
+            self.later.append((self.refused(one.name, fault), one))
+
+    def refused(self, name: str, fault: OSError | PressError) -> float:
+        """Says what the system refused, and answers when it is tried again."""
+        named = getattr(fault, "filename", None)
+        place = f"{os.fsdecode(named)}: " if isinstance(named, (str, bytes)) else ""
+        self.say("refused", name, text=f"{place}{reason(fault)}: tried again in {AGAIN} s")
+        return time.monotonic() + AGAIN
 
     # One turn
 
@@ -152,9 +170,9 @@ class Station:
         try:
             self.take()
             self.is_lost = False
-        except OSError as fault:
+        except (OSError, PressError) as fault:
             if not self.is_lost:
-                self.say("lost", text=f"{reason(fault)}: looked at again until it is there")
+                self.say("lost", text=f"{reason(fault)}: no file is taken until this is over")
             self.is_lost = True
 
     def again(self, one: Claim) -> None:
