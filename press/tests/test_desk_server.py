@@ -151,7 +151,7 @@ def test_a_page_is_described(client):
     assert (page["width"], page["height"], page["dpi"]) == (WIDTH, HEIGHT, DPI)
     assert [ink["title"] for ink in page["inks"]] == ["Cyan", "Magenta", "Yellow", "Black"]
     assert page["settings"]["TrapWidth"] == 20_000 and page["edits"] == {
-        "settings": {}, "zones": [], "inks": {}, "off": []}
+        "settings": {}, "zones": [], "inks": {}, "off": [], "keepaway": None}
 
 
 @pytest.mark.parametrize("settings, zones", [

@@ -4,6 +4,7 @@ black, and after that its whites under the colours. The program trapkeep does bo
 page needs it, and on which plates."""
 import functools
 import os
+import re
 import shutil
 from collections.abc import Iterable, Iterator, Sequence
 from dataclasses import dataclass, field
@@ -28,6 +29,8 @@ BEGUN = "keepaway"
 REPORT = "report"
 # In the record of a page and in report.json.
 KEY, ASKED = KEEPAWAY, "asked"
+# The line of a page's job in which the trap editor says how far inks are drawn back, in points; 0 is off.
+SAID = re.compile(rb"^%%Keepaway: (\d{1,3}(?:\.\d{1,4})?)$", re.M)
 # The share of full ink, in ten-thousandths, from which trapkeep takes a pixel for black.
 BLACK_LIMIT = 8_500
 BAND_ROWS = 256
@@ -86,11 +89,19 @@ def asked(settings: Settings) -> dict[str, Any]:
     return {} if value is None else {KEY: {ASKED: round(value.number, 4)}}
 
 
-def width_of(page: PageFolder, settings: Settings, job: Job) -> int:
+def said_in(text: bytes) -> float | None:
+    """The width in points that the trap editor wrote into a job; None if it wrote none."""
+    found = SAID.findall(text)
+    return float(found[-1]) if found else None
+
+
+def width_of(page: PageFolder, settings: Settings, job: Job, text: bytes = b"") -> int:
     """How far inks are drawn back on a page, in ten-thousandths of a point: what an option or a preset says; else what
-    the page's record says; else the trap width of the page. Refuses a width that trapkeep does not take."""
-    recorded = page_of(read_record(page.path), page.source.page).get(KEY, {}).get(ASKED)
-    value = settings.parameters.get(KEEPAWAY) or (Value(recorded, "", RECORD) if recorded is not None else None)
+    the trap editor wrote into the text of the job; else what the page's record says; else the trap width of the page.
+    Refuses a width that trapkeep does not take."""
+    said, recorded = said_in(text), page_of(read_record(page.path), page.source.page).get(KEY, {}).get(ASKED)
+    kept = Value(said, "", JOB) if said is not None else Value(recorded, "", RECORD) if recorded is not None else None
+    value = settings.parameters.get(KEEPAWAY) or kept
     need_keepaway_reach(value, page.source.resolution)
     if value:
         return round(value.number * SCALE)
@@ -179,8 +190,9 @@ class Keepaway:
         self.job, self.width = None, 0
         try:
             with open(page.file(JOB), "rb") as file:
-                self.job = read_job(file.read())
-            self.width = width_of(page, settings, self.job)
+                text = file.read()
+            self.job = read_job(text)
+            self.width = width_of(page, settings, self.job, text)
         except (JobSyntaxError, RecursionError, IndexError):
             # The trapping program names the job's fault.
             pass

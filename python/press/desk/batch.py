@@ -20,7 +20,8 @@ def edits_for(page: DeskPage, said: Mapping[str, Any], with_zones: bool) -> dict
     names = {ink["name"] for ink in own["inks"]}
     rules = [rule for rule in said["off"] if rule in own["rules"]]
     return {"settings": said["settings"], "inks": {name: one for name, one in said["inks"].items() if name in names},
-            "zones": said["zones"] if with_zones else own["edits"]["zones"], "off": rules}
+            "zones": said["zones"] if with_zones else own["edits"]["zones"], "off": rules,
+            "keepaway": said.get("keepaway")}
 
 
 class Batch:

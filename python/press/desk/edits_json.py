@@ -5,7 +5,8 @@ from __future__ import annotations
 from collections.abc import Mapping
 from typing import Any
 
-from press.job_language import KEYS, Job
+from press.job_language import KEYS, SCALE, Job
+from press.settings import MOST_KEEPAWAY
 
 from .job_edits import EditedInk, EditedZone, Edits, polygon_of_pixels
 from .job_sections import RULES
@@ -32,13 +33,28 @@ def edits_of(said: Mapping[str, Any], own: Job, resolution: int, height: int) ->
         if not off <= set(RULES):
             raise BadRequest("no such rule")
         return Edits(settings, inks_of(said.get("inks", {}), own),
-                     tuple(zone_of(zone, resolution, height) for zone in zones), off)
+                     tuple(zone_of(zone, resolution, height) for zone in zones), off,
+                     keepaway=keepaway_of(said.get("keepaway"), resolution))
     except (KeyError, TypeError, AttributeError, OverflowError) as fault:
         raise BadRequest(f"these are no edits: {fault}") from fault
     except BadRequest:
         raise
     except ValueError as fault:
         raise BadRequest(f"these are no edits: {fault}") from fault
+
+
+def most_keepaway(resolution: int) -> int:
+    """How far inks can be drawn back at most, in ten-thousandths of a point."""
+    return MOST_KEEPAWAY * 72 * SCALE // resolution
+
+
+def keepaway_of(said: Any, resolution: int) -> int | None:
+    """How far inks are drawn back, in ten-thousandths of a point; None if the page decides."""
+    if said is None:
+        return None
+    if isinstance(said, bool) or not isinstance(said, int) or not 0 <= said <= most_keepaway(resolution):
+        raise BadRequest(f"inks are drawn back by 0 to {most_keepaway(resolution) / SCALE:g} points")
+    return said
 
 
 def inks_of(said: Mapping[str, Any], job: Job) -> dict[str, EditedInk]:

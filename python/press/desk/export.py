@@ -39,8 +39,11 @@ def zones_file(page: DeskPage) -> str:
     text += "".join(zone_statements(zone, base_of(page.job)) for zone in [*below, *above])
     if above:
         text += "% press/all puts these zones below images: --trap-images traps within images too.\n"
+    options = [RULE_OPTIONS[rule] for rule in sorted(page.edits.off)]
+    if page.edits.keepaway is not None:
+        options.append(f"--keepaway {number(page.edits.keepaway)}pt" if page.edits.keepaway else "--no-keepaway")
     return f"% Zones of page {page.folder.source.page}.\n{text}" + "".join(
-        f"% The page was trapped with {RULE_OPTIONS[rule]}.\n" for rule in sorted(page.edits.off))
+        f"% The page was trapped with {option}.\n" for option in options)
 
 
 def owner_parts(page: DeskPage) -> tuple[str, str]:

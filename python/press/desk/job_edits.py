@@ -12,9 +12,10 @@ from __future__ import annotations
 import json
 import re
 from collections.abc import Mapping, Sequence
-from dataclasses import dataclass, field, fields
+from dataclasses import dataclass, field, fields, replace
 
 from press.job_language import KEYS, SCALE, Parameters, Point, Subpath, in_force, ten_thousandths
+from press.keepaway import said_in
 
 from .job_sections import IMAGES, OFF, THIN, TRIM, line_start, section_of, sections, set_aside, tail_start, taken_back
 from .reading import read_job, statements
@@ -51,13 +52,19 @@ class EditedZone:
 @dataclass(frozen=True)
 class Edits:
     """All that the editor changes in one job. `off` has the rules that are switched off; `thin` has the zones of thin
-    strokes that replace the job's own, as statements, or None if those stay."""
+    strokes that replace the job's own, as statements, or None if those stay. `keepaway` is how far inks are drawn back,
+    in ten-thousandths of a point: 0 is off, and None leaves it to the page."""
 
     settings: Settings = field(default_factory=dict)
     inks: Mapping[str, EditedInk] = field(default_factory=dict)
     zones: Sequence[EditedZone] = ()
     off: frozenset[str] = frozenset()
     thin: str | None = None
+    keepaway: int | None = None
+
+    def changes_zones(self) -> bool:
+        """Whether anything below the zones of thin strokes changes."""
+        return replace(self, thin=None, keepaway=None) != Edits()
 
 
 def apply_edits(original: bytes, edits: Edits) -> bytes:
@@ -89,11 +96,11 @@ def take_apart(text: bytes) -> tuple[bytes, Edits]:
         if block:
             found[name] = block[1].decode("utf-8", "replace")
             original = original[:block.start()] + taken_back(block[1]) + original[block.end():]
-    settings, inks = _read_page(found.get(PAGE, ""))
+    settings, inks, keepaway = _read_page(found.get(PAGE, ""))
     zones = [*_read_zones(found.get(BELOW, ""), False), *_read_zones(found.get(ABOVE, ""), True)]
     thin = _live_lines(found.get(BLOCKS[THIN]))
     off = {kind for kind in (TRIM, IMAGES) if BLOCKS[kind] in found} | ({THIN} if thin == "" else set())
-    edits = Edits(settings, inks, tuple(zones), frozenset(off), thin or None)
+    edits = Edits(settings, inks, tuple(zones), frozenset(off), thin or None, keepaway)
     try:
         return (original, edits) if apply_edits(original, edits) == text else (text, Edits())
     except ValueError:
@@ -178,6 +185,8 @@ def _page_block(edits: Edits) -> str:
         inks = "\n".join(f"  /{name} << /NeutralDensity {number(ink.density)} /ColorantType /{ink.kind} >>"
                          for name, ink in edits.inks.items())
         lines += f"<< /TrappingDetails << /Type 1001 /ColorantDetails <<\n{inks}\n>> >> >> setpagedevice\n"
+    if edits.keepaway is not None:
+        lines += f"%%Keepaway: {number(edits.keepaway)}\n"
     return lines
 
 
@@ -222,10 +231,12 @@ def _settings(text: str) -> dict[str, int | bool]:
             for key, value in SETTING.findall(text) if key in KEYS}
 
 
-def _read_page(lines: str) -> tuple[Settings, Mapping[str, EditedInk]]:
+def _read_page(lines: str) -> tuple[Settings, Mapping[str, EditedInk], int | None]:
     first = lines.partition("\n")[0]
     inks = {name: EditedInk(ten_thousandths(density.encode()), kind) for name, density, kind in INK.findall(lines)}
-    return (_settings(first) if first.endswith("settrapparams") else {}), inks
+    said = said_in(lines.encode())
+    keepaway = None if said is None else round(said * SCALE)
+    return (_settings(first) if first.endswith("settrapparams") else {}), inks, keepaway
 
 
 def _read_zones(lines: str, over_images: bool) -> list[EditedZone]:

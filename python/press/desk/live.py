@@ -38,8 +38,21 @@ def corner_step(resolution: int) -> int:
     return resolution // math.gcd(resolution, 720_000)
 
 
+@dataclass(frozen=True)
+class Wanted:
+    """A part that is being trapped: the job with its halo, the plates that it begins from, where the part lies, and the
+    planes that the threads fill."""
+
+    job: bytes
+    halo: int
+    planes: Sequence[Plane]
+    place: tuple[int, int, int]
+    out: Sequence[Plane]
+
+
 class LivePage:
-    """A page's plates as their files hold them (0 is full ink), and which of them the engine is given, by name."""
+    """A page's plates that traps begin from, as their files hold them (0 is full ink), and which of them the engine is
+    given, by name."""
 
     def __init__(self, planes: Sequence[Plane], maxval: int, inks: InkNames, resolution: int) -> None:
         self.planes, self.maxval, self.names, self.inked = list(planes), maxval, inks.names, inks.inked
@@ -47,12 +60,11 @@ class LivePage:
         self.height, self.width = self.planes[0].shape
         self.kind = np.uint8 if maxval < 256 else np.uint16
 
-    def tints(self, left: int, top: int, width: int, height: int) -> NDArray[Any]:
+    def tints(self, planes: Sequence[Plane], rows: slice, columns: slice) -> NDArray[Any]:
         """A part of the inked plates, plates × rows × columns, with 0 for no ink."""
-        out = np.empty((len(self.inked), height, width), self.kind)
+        out = np.empty((len(self.inked), rows.stop - rows.start, columns.stop - columns.start), self.kind)
         for place, k in enumerate(self.inked):
-            part = self.planes[k][top:top + height, left:left + width]
-            np.subtract(self.maxval, part, out=out[place], casting="unsafe")
+            np.subtract(self.maxval, planes[k][rows, columns], out=out[place], casting="unsafe")
         return out
 
     def trapped(self, job: bytes, left: int, top: int, width: int, height: int) -> list[Plane]:
@@ -60,30 +72,27 @@ class LivePage:
 
         Raises trapping.Refusal if the job has a fault.
         """
-        out = [np.array(plane[top:top + height, left:left + width], self.kind) for plane in self.planes]
+        planes = self.planes
+        out = [np.array(plane[top:top + height, left:left + width], self.kind) for plane in planes]
         if not self.inked or not width or not height:
             return out
-        halo = trapping.halo(job)
+        wanted = Wanted(job, trapping.halo(job), planes, (left, top, width), out)
         bands = max(1, min(THREADS, height // SMALLEST_BAND))
         cuts = [height * k // bands for k in range(bands + 1)]
-
-        def trap_band(first: int, last: int) -> None:
-            self._trap_band(job, halo, (left, top, width), (first, last), out)
-        for _ in _POOL.map(trap_band, cuts[:-1], cuts[1:]):
+        for _ in _POOL.map(lambda first, last: self._trap_band(wanted, first, last), cuts[:-1], cuts[1:]):
             pass
         return out
 
-    def _trap_band(self, job: bytes, halo: int, corner: tuple[int, int, int], rows: tuple[int, int],
-                   out: Sequence[Plane]) -> None:
+    def _trap_band(self, wanted: Wanted, first: int, last: int) -> None:
         """Traps some rows of a part and puts them into its planes."""
-        (left, top, width), (first, last) = corner, rows
+        (left, top, width), halo = wanted.place, wanted.halo
         x0, x1 = max(0, left - halo) // self.step * self.step, min(self.width, left + width + halo)
         y0 = max(0, top + first - halo)
         y1 = self.height - max(0, self.height - (top + last + halo)) // self.step * self.step
-        window = self.tints(x0, y0, x1 - x0, y1 - y0)
+        window = self.tints(wanted.planes, slice(y0, y1), slice(x0, x1))
         core = left - x0, top + first - y0, width, last - first
-        trapping.trap_window(job, [self.names[k] for k in self.inked], window, sheet=(self.width, self.height),
+        trapping.trap_window(wanted.job, [self.names[k] for k in self.inked], window, sheet=(self.width, self.height),
                              at=(x0, y0), core=core, maxval=self.maxval)
         made = window[:, core[1]:core[1] + core[3], core[0]:core[0] + width]
         for place, k in enumerate(self.inked):
-            np.subtract(self.maxval, made[place], out=out[k][first:last], casting="unsafe")
+            np.subtract(self.maxval, made[place], out=wanted.out[k][first:last], casting="unsafe")

@@ -10,7 +10,7 @@ from dataclasses import dataclass, replace
 from pathlib import Path
 from typing import Any
 
-from press import folder as folders
+from press import folder as folders, keepaway
 from press.files import whole_file
 from press.folder import PageFolder
 from press.job_language import KEYS, SCALE, Job
@@ -19,7 +19,8 @@ from press.picture import light_of
 from press.tables import is_seen
 
 from .colours import Inks, soft_proof
-from .edits_json import BadRequest, edits_of, settings_of
+from .drawn_back import DrawnBack, LastRun, begun_planes
+from .edits_json import BadRequest, edits_of, most_keepaway, settings_of
 from .job_edits import Edits, apply_edits, below_thin, pixels_of_polygon, rules_of, take_apart
 from .job_sections import THIN, zone_names
 from .kept import Kept
@@ -70,8 +71,9 @@ class DeskPage:
         self.before = self._pyramid(trapped=False)
         self.after = self._pyramid(trapped=True)
         names = InkNames(self.names, self.inked)
-        self.live = LivePage(self.before.planes, self.maxval, names, self.resolution)
+        self.live = LivePage(begun_planes(self.folder), self.maxval, names, self.resolution)
         self._take(Path(self.folder.file(folders.JOB)).read_bytes())
+        self.last = LastRun.of(self.folder, None if self.kept.is_behind(self.text) else self.drawn_back)
         self.first = first_strokes(self.folder, self.original)
         self.strokes = self.kept.strokes() or self.first
         self.versions = [Version(1, now(), self.text)]
@@ -86,6 +88,7 @@ class DeskPage:
         self.text = text
         self.original, self.edits = take_apart(text)
         self.job: Job = read_job(text)
+        self.drawn_back = DrawnBack.of(self.folder, text, self.job)
 
     @property
     def size(self) -> tuple[float, float]:
@@ -128,7 +131,7 @@ class DeskPage:
         """The job by edits. Zones of thin strokes are composed anew if anything below them changes."""
         plain, thin = replace(edits, thin=None), None
         try:
-            if self.first and self.strokes and THIN not in edits.off and plain != Edits():
+            if self.first and self.strokes and THIN not in edits.off and plain.changes_zones():
                 rule = rule_of(read_job(below_thin(self.original, plain)), plain)
                 strokes = self.first if self.first.rule == rule else self.strokes
                 thin = composed(self.original, plain, strokes.places, self.size) or None
@@ -153,6 +156,7 @@ class DeskPage:
     def _write(self, text: bytes) -> None:
         """Writes a job, if the engine accepts it for this page: one pixel is trapped by it."""
         self.live.trapped(text, 0, 0, 1, 1)
+        DrawnBack.of(self.folder, text, read_job(text))
         if not self.kept.has_record():
             self.kept.record_trapped(self.text)
         with whole_file(self.folder.file(folders.JOB)) as path:
@@ -161,11 +165,20 @@ class DeskPage:
         self.version += 1
         self.versions = [*self.versions, Version(self.version, now(), text)][-MOST_VERSIONS:]
 
-    # Thin strokes
+    # What the picture lacks while the page is not done
 
     def is_preview(self) -> bool:
+        """Whether the page's plates will have more than what is shown at once."""
+        return self.lacks_strokes() or self.lacks_keepaway()
+
+    def lacks_keepaway(self) -> bool:
+        """Whether the job draws inks back otherwise than the last run of the page, from which the traps begin."""
+        return self.last.differs(self.drawn_back, self.resolution) or (
+            self.version != self.shown and self.last.draws_whites())
+
+    def lacks_strokes(self) -> bool:
         """Whether the zones of thin strokes are those of another rule than the job's."""
-        if not self.first or not self.strokes or THIN in self.edits.off or replace(self.edits, thin=None) == Edits():
+        if not self.first or not self.strokes or THIN in self.edits.off or not self.edits.changes_zones():
             return False
         return rule_of(self.job, self.edits) not in (self.first.rule, self.strokes.rule)
 
@@ -194,11 +207,12 @@ class DeskPage:
         the newest one."""
         if version != self.version:
             return False
-        after = self._pyramid(trapped=True)
+        after, begun = self._pyramid(trapped=True), begun_planes(self.folder)
         with self.lock:
             if version != self.version:
                 return False
-            self.after, self.shown = after, version
+            self.after, self.shown, self.live.planes = after, version, begun
+            self.last = LastRun.of(self.folder, self.drawn_back)
         return True
 
     # What browsers see
@@ -208,6 +222,8 @@ class DeskPage:
         with self.lock:
             return {"width": self.width, "height": self.height, "dpi": self.resolution, "maxval": self.maxval,
                     "version": self.version, "shown": self.shown, "epoch": self.epoch, "preview": self.is_preview(),
+                    "lacks": ["thin strokes"] * self.lacks_strokes() + ["keepaway"] * self.lacks_keepaway(),
+                    "keepaway": self._keepaway(),
                     "levels": self.before.last_level, "canUndo": bool(self.undo), "canRedo": bool(self.redo),
                     "inks": [self._ink(k) for k in range(len(self.names))], "settings": self._settings(self.job),
                     "edits": self._edits_json(), "jobZones": self._job_zones(),
@@ -221,7 +237,14 @@ class DeskPage:
         own = read_job(self.original).inks
         inks = {name: vars(ink) for name, ink in self.edits.inks.items()
                 if name not in own or (own[name].density, own[name].kind) != (ink.density, ink.kind)}
-        return {"settings": dict(self.edits.settings), "zones": zones, "inks": inks, "off": sorted(self.edits.off)}
+        return {"settings": dict(self.edits.settings), "zones": zones, "inks": inks, "off": sorted(self.edits.off),
+                "keepaway": self.edits.keepaway}
+
+    def _keepaway(self) -> dict[str, Any]:
+        """How far inks are drawn back, what the editor says of it, and what the last run of the page did."""
+        titles = {ink.name: readable(ink.colorant) for ink in self.folder.inks}
+        return {"width": self.drawn_back.width, "most": most_keepaway(self.resolution),
+                "done": list(keepaway.lines_of(dict(self.last.report), titles))}
 
     def _pixels(self, ring: Sequence[tuple[int, int]]) -> list[tuple[float, float]]:
         return pixels_of_polygon(tuple(ring), self.resolution, self.height)

@@ -167,12 +167,15 @@ class PageViews:
         radius = why.window_radius(job)
         left, top = max(0, x - radius), max(0, y - radius)
         right, bottom = min(page.width, x + radius + 1), min(page.height, y + radius + 1)
-        tints = page.live.tints(left, top, right - left, bottom - top)
+        tints = page.live.tints(page.live.planes, slice(top, bottom), slice(left, right))
         names = [page.names[k] for k in page.inked]
         window = why.Window(tints, page.maxval, names, job, why.Place(left, top, page.height))
         answer = why.explain(window, (x - left, y - top))
         said = answer_json(answer, (x, y), [readable(page.folder.inks[k].colorant) for k in page.inked])
-        return {**said, "zoneName": page.zone_name(answer.zone), "settings": settings_json(job, answer.zone)}
+        separated = [page.maxval - int(page.before.planes[k][y, x]) for k in page.inked]
+        drawn_back = [said["inks"][at] for at, tint in enumerate(separated) if tint != answer.before[at]]
+        return {**said, "before": separated, "drawnBack": drawn_back, "zoneName": page.zone_name(answer.zone),
+                "settings": settings_json(job, answer.zone)}
 
 
 def settings_json(job: Job, zone: int) -> dict[str, Any]:

@@ -118,13 +118,14 @@ class PageRun:
         with page.lock:
             version, text = page.version, page.text
         with self._progress(asked):
-            engine.trap(page.folder, Settings(), self._started(asked))
+            warnings = engine.trap(page.folder, Settings(), self._started(asked)).warnings
         page.kept.record_trapped(text)
         seconds = time.monotonic() - start
         if not page.take_trapped(version):
             return False
-        if not page.is_preview():
-            self.notify(kind="shown", version=version, seconds=seconds, text=f"page trapped in {seconds:.1f} s")
+        if not page.lacks_strokes():
+            said = "; ".join([f"page trapped in {seconds:.1f} s", *warnings])
+            self.notify(kind="shown", version=version, seconds=seconds, text=said)
             return False
         self.notify(kind="shown", version=version, seconds=seconds,
                     text=f"page trapped in {seconds:.1f} s; thin strokes are measured anew")

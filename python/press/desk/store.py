@@ -19,7 +19,7 @@ from press.errors import PressError
 from press.folder import JOB, TABLE, TRAPPED, JobFolder, read_table
 from press.job_language import SCALE
 from press.names import readable
-from press.settings import PARAMETERS, PRESETS, house_folder, preset_values
+from press.settings import KEEPAWAY, PARAMETERS, PRESETS, Value, house_folder, preset_values
 
 from . import said
 from .batch import Batch
@@ -239,12 +239,17 @@ def source_of(job: Path, name: bytes) -> Path | None:
 
 
 def presets() -> list[dict[str, Any]]:
-    """The presets of the house and of the press room, in the units of the job."""
+    """The presets of the house and of the press room, in the units of the job: `keepaway` is None if it has none."""
     folders = [folder for folder in (house_folder(), PRESETS) if folder]
     names = sorted({one.stem for folder in folders for one in Path(folder).glob("*.preset")})
-    return [{"name": name, "settings": {PARAMETERS[key].key: round(value.number * SCALE)
-                                        for key, value in preset_values(name).items() if PARAMETERS[key].key}}
-            for name in names]
+    return [preset_json(name, preset_values(name)) for name in names]
+
+
+def preset_json(name: str, values: Mapping[str, Value]) -> dict[str, Any]:
+    """A preset as browsers get it."""
+    found = {key: round(value.number * SCALE) for key, value in values.items()}
+    return {"name": name, "settings": {PARAMETERS[key].key: value for key, value in found.items()
+                                       if PARAMETERS[key].key}, "keepaway": found.get(KEEPAWAY)}
 
 
 def pages_of(folder: Path) -> list[tuple[int, Path, str]]:

@@ -67,7 +67,7 @@ function showPage() {
   listCompared(app);
   byId('softbox').hidden = !page.canSoftProof;
   byId('preview').hidden = !page.preview && page.version === page.shown;
-  byId('preview').textContent = page.preview ? 'preview: thin strokes follow' : 'the page follows';
+  byId('preview').textContent = page.preview ? `preview: ${page.lacks.join(' and ')} follow${page.lacks.length === 1 && page.lacks[0] === 'keepaway' ? 's' : ''}` : 'the page follows';
   const undo = /** @type {HTMLButtonElement} */ (byId('undo')), redo = /** @type {HTMLButtonElement} */ (byId('redo'));
   undo.disabled = !page.canUndo;
   redo.disabled = !page.canRedo;

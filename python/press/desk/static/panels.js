@@ -36,6 +36,7 @@ export function showPanels(app, on) {
   const focused = document.activeElement?.id;
   showPlates(app, on);
   showSettings(app.page, on);
+  showKeepaway(app.page, on);
   showInks(app.page, on);
   showRules(app.page, on);
   showZones(app, on);
@@ -125,9 +126,33 @@ function control(id, [, label, least, most, step, unit], value, set) {
 function showSettings(page, on) {
   const pick = element('select', { id: 'preset' }, [new Option('Preset …', ''), ...page.presets.map((/** @type {any} */ one) => new Option(one.name, one.name))]);
   pick.setAttribute('aria-label', 'Preset');
-  pick.onchange = () => on.edit((/** @type {any} */ edits) => Object.assign(edits.settings, page.presets.find((/** @type {any} */ one) => one.name === pick.value)?.settings));
+  pick.onchange = () => on.edit((/** @type {any} */ edits) => {
+    const preset = page.presets.find((/** @type {any} */ one) => one.name === pick.value);
+    Object.assign(edits.settings, preset?.settings);
+    edits.keepaway = preset?.keepaway ?? edits.keepaway;
+  });
   byId('settings').replaceChildren(pick, ...SETTINGS.map((setting) => control(`set-${setting[0]}`, setting, page.settings[setting[0]],
     (value) => on.edit((/** @type {any} */ edits) => { edits.settings[setting[0]] = value; }))));
+}
+
+/**
+ * Keepaway: on or off, its width, and what it did on the page.
+ * @param {any} page
+ * @param {any} on
+ */
+function showKeepaway(page, on) {
+  const { width, most, done } = page.keepaway, isOn = width > 0, own = page.edits.keepaway;
+  const set = (/** @type {number | null} */ value) => on.edit((/** @type {any} */ edits) => { edits.keepaway = value; });
+  const box = element('input', { type: 'checkbox', id: 'keepaway', checked: isOn });
+  box.onchange = () => set(box.checked ? null : 0);
+  const parts = [element('label', { htmlFor: box.id, className: 'rule', title: 'Inks under a rich black end before it does' }, [box, ' Keepaway: inks are drawn back under rich black'])];
+  if (isOn) {
+    parts.push(control('keepawaywidth', ['', 'Keepaway width', 0.05, Math.min(4, most / SCALE), 0.05, 'pt'], width, set));
+    const usual = element('button', { type: 'button', id: 'keepawayusual', textContent: 'As wide as traps' });
+    usual.onclick = () => set(null);
+    if (own) parts.push(element('div', { className: 'row' }, [usual]));
+  }
+  byId('keepawaybox').replaceChildren(...parts, ...done.map((/** @type {string} */ textContent) => element('div', { className: 'dim', textContent })));
 }
 
 const RULES = /** @type {[string, string][]} */ ([['thin', 'Narrower traps at small type and thin lines'], ['images', 'No traps within images'],
@@ -302,5 +327,6 @@ export function showWhy(page, answer) {
     lines.push(`This side: ${side(answer.edge.own)}.`, `Across the edge: ${side(answer.edge.across)}.`,
       `The edge is ${answer.edge.distance.toFixed(1)} pixels away; the trap reaches ${answer.edge.reach.toFixed(1)}${answer.edge.isBlack ? ', width at black' : ''}${answer.edge.isCentred ? ', centred' : ''}.`);
   }
+  if (answer.drawnBack.length) lines.push(`Keepaway drew back here before the page was trapped: ${answer.drawnBack.join(', ')}.`);
   byId('why').replaceChildren(element('table', {}, [head, ...rows]), ...lines.map((text) => element('div', { textContent: text })));
 }
