@@ -37,8 +37,7 @@ if LIBRARY:
 from press.desk.colours import GAP  # noqa: E402
 from press.desk.guard import LOOPBACK, allowed_hosts  # noqa: E402
 from press.desk.page import DeskPage  # noqa: E402
-from press.desk import page as desk_page  # noqa: E402
-from press.desk import runs  # noqa: E402
+from press.desk import history, runs  # noqa: E402
 from press.desk.job_queue import TooMuch  # noqa: E402
 from press.desk.serve import Where, bound_socket  # noqa: E402
 from press.desk.server import application, in_time  # noqa: E402
@@ -837,7 +836,7 @@ def test_types_of_the_app():
 
 def test_versions_and_undo_are_bounded(client, monkeypatch):
     """A slider that is pulled for long takes no more memory; the newest versions are kept."""
-    monkeypatch.setattr(desk_page, "MOST_VERSIONS", 3)
+    monkeypatch.setattr(history, "MOST_VERSIONS", 3)
     key = page_of(client)
     for width in range(21_000, 27_000, 1_000):
         assert change(client, key, {"TrapWidth": width}).status_code == 200
@@ -848,3 +847,56 @@ def test_versions_and_undo_are_bounded(client, monkeypatch):
         page = client.post(f"/api/pages/{key}/undo", json={"version": page["version"]}).json()
         undone += 1
     assert undone == 3 and page["settings"]["TrapWidth"] == 23_000
+
+
+def undone(client, key, how="undo"):
+    """A page after one step back or forth."""
+    version = client.get(f"/api/pages/{key}").json()["version"]
+    answer = client.post(f"/api/pages/{key}/{how}", json={"version": version})
+    assert answer.status_code == 200, answer.text
+    return answer.json()
+
+
+def test_versions_undo_and_redo_outlive_the_server(folder):
+    """Two changes, one of them undone; the next server goes back and forth between all three, and compares with them."""
+    key, job = "", folder / "made" / "page-001" / "page.job"
+    texts = [job.read_bytes()]
+    with open_client(folder) as client:
+        key = page_of(client)
+        for width in (30_000, 50_000):
+            change(client, key, {"TrapWidth": width})
+            texts.append(job.read_bytes())
+        undone(client, key)
+        wait_until_shown(client, key)
+        second = view(client, key)
+    with open_client(folder) as client:
+        page = client.get(f"/api/pages/{key}").json()
+        assert page["version"] == 4 and page["canUndo"] and page["canRedo"]
+        assert [one["number"] for one in page["versions"]] == [1, 2, 3, 4]
+        assert np.array_equal(view(client, key, other={"version": 2}), second)
+        assert not undone(client, key, "redo")["canRedo"] and job.read_bytes() == texts[2]
+        assert undone(client, key)["canUndo"] and not undone(client, key)["canUndo"]
+        assert job.read_bytes() == texts[0]
+    with open_client(folder) as client:
+        undone(client, key, "redo")
+        assert undone(client, key, "redo")["settings"]["TrapWidth"] == 50_000 and job.read_bytes() == texts[2]
+
+
+def test_a_job_that_was_changed_meanwhile_keeps_its_versions_if_it_is_the_same_one(folder):
+    """The editor's blocks by another hand are a version that can be undone. Another job begins anew."""
+    job = folder / "made" / "page-001" / "page.job"
+    first = job.read_bytes()
+    with open_client(folder) as client:
+        key = page_of(client)
+        change(client, key, {"TrapWidth": 30_000})
+    changed = job.read_bytes()
+    job.write_bytes(changed.replace(b"/TrapWidth 3 ", b"/TrapWidth 4 "))
+    with open_client(folder) as client:
+        page = client.get(f"/api/pages/{key}").json()
+        assert page["version"] == 3 and page["settings"]["TrapWidth"] == 40_000
+        undone(client, key)
+        assert job.read_bytes() == changed
+    job.write_bytes(first.replace(b"/TrapWidth 2 ", b"/TrapWidth 5 "))
+    with open_client(folder) as client:
+        page = client.get(f"/api/pages/{key}").json()
+        assert page["version"] == 1 and not page["canUndo"] and not page["canRedo"]

@@ -4,9 +4,8 @@ from __future__ import annotations
 
 import secrets
 import threading
-import time
 from collections.abc import Mapping, Sequence
-from dataclasses import dataclass, replace
+from dataclasses import replace
 from pathlib import Path
 from typing import Any
 
@@ -21,6 +20,7 @@ from press.tables import is_seen
 from .colours import Inks, soft_proof
 from .drawn_back import DrawnBack, LastRun, begun_planes
 from .edits_json import BadRequest, edits_of, most_keepaway, settings_of
+from .history import EDIT, FOLLOW, REDO, UNDO, History
 from .job_edits import Edits, apply_edits, below_thin, pixels_of_polygon, rules_of, take_apart
 from .job_sections import THIN, zone_names
 from .kept import Kept
@@ -29,21 +29,9 @@ from .pyramid import Pyramid, open_pyramid, plates_key
 from .reading import read_job
 from .thin_zones import Strokes, base_of, composed, first_strokes, rule_of
 
-MOST_VERSIONS = 100
-"""So many versions of a page can be shown again, and so many changes undone."""
-
 
 class VersionConflict(Exception):
     """A change was made on a version that is no longer the newest one."""
-
-
-@dataclass(frozen=True)
-class Version:
-    """A version of a page's job: its number, when it was made, and its text."""
-
-    number: int
-    time: str
-    text: bytes
 
 
 class DeskPage:
@@ -63,10 +51,6 @@ class DeskPage:
                          [ink.kind != "Transparent" for ink in self.folder.inks], soft_proof(self.folder.inks, profile))
         # Tiles of an earlier server must not be taken for this one's: the browser keeps them for ever.
         self.epoch = secrets.token_hex(4)
-        # A change has to be made on this version or on a later one: what only moves thin strokes is no conflict.
-        self.version = self.shown = self.least = 1
-        self.undo: list[bytes] = []
-        self.redo: list[bytes] = []
         self.digest = "", ""
         self.before = self._pyramid(trapped=False)
         self.after = self._pyramid(trapped=True)
@@ -76,7 +60,9 @@ class DeskPage:
         self.last = LastRun.of(self.folder, None if self.kept.is_behind(self.text) else self.drawn_back)
         self.first = first_strokes(self.folder, self.original)
         self.strokes = self.kept.strokes() or self.first
-        self.versions = [Version(1, now(), self.text)]
+        self.history = self._history()
+        # A change has to be made on this version or on a later one: what only moves thin strokes is no conflict.
+        self.shown = self.least = self.version
 
     def _pyramid(self, trapped: bool) -> Pyramid:
         plates = self.folder.plates(trapped)
@@ -89,6 +75,22 @@ class DeskPage:
         self.original, self.edits = take_apart(text)
         self.job: Job = read_job(text)
         self.drawn_back = DrawnBack.of(self.folder, text, self.job)
+
+    def _history(self) -> History:
+        """The versions that an earlier server kept. If somebody else changed the editor's part of the job since, that
+        is one more version; if the job is another one, it begins anew."""
+        found = History(self.kept.folder, self.text)
+        if found.newest.text != self.text:
+            if take_apart(found.newest.text)[0] == self.original:
+                found.add(EDIT, self.text)
+            else:
+                found.begin_again(self.text)
+        return found
+
+    @property
+    def version(self) -> int:
+        """The number of the newest version."""
+        return self.history.newest.number
 
     @property
     def size(self) -> tuple[float, float]:
@@ -104,24 +106,18 @@ class DeskPage:
         with self.lock:
             self._expect(version)
             if made != self.text:
-                before = self.text
-                self._write(made)
+                self._write(made, EDIT)
                 self.least = self.version
-                self.undo = [*self.undo, before][-MOST_VERSIONS:]
-                self.redo.clear()
 
     def step(self, version: int, is_undo: bool) -> None:
         """Goes back to the job before the last change, or forward again."""
         with self.lock:
             self._expect(version)
-            stack, back = (self.undo, self.redo) if is_undo else (self.redo, self.undo)
-            if not stack:
+            texts = self.history.undo if is_undo else self.history.redo
+            if not texts:
                 raise BadRequest("there is nothing to undo" if is_undo else "there is nothing to redo")
-            before, text = self.text, stack[-1]
-            self._write(text)
+            self._write(texts[-1], UNDO if is_undo else REDO)
             self.least = self.version
-            stack.pop()
-            back.append(before)
 
     def edits_said(self, said: Mapping[str, Any]) -> Edits:
         """Edits as a browser sends them. Raises BadRequest if they are none."""
@@ -142,7 +138,7 @@ class DeskPage:
     def other_text(self, other: Mapping[str, Any]) -> bytes:
         """The job of an earlier version, or by other settings. Raises BadRequest if there is none."""
         if "version" in other:
-            found = [one.text for one in self.versions if one.number == other["version"]]
+            found = [one.text for one in self.history.versions if one.number == other["version"]]
             if not found:
                 raise BadRequest(f"version {other['version']} is not kept")
             return found[0]
@@ -153,7 +149,7 @@ class DeskPage:
         if not self.least <= version <= self.version:
             raise VersionConflict(f"version {version} was changed by another window; the newest is {self.version}")
 
-    def _write(self, text: bytes) -> None:
+    def _write(self, text: bytes, kind: str) -> None:
         """Writes a job, if the engine accepts it for this page: one pixel is trapped by it."""
         self.live.trapped(text, 0, 0, 1, 1)
         DrawnBack.of(self.folder, text, read_job(text))
@@ -162,8 +158,7 @@ class DeskPage:
         with whole_file(self.folder.file(folders.JOB)) as path:
             Path(path).write_bytes(text)
         self._take(text)
-        self.version += 1
-        self.versions = [*self.versions, Version(self.version, now(), text)][-MOST_VERSIONS:]
+        self.history.add(kind, text)
 
     # What the picture lacks while the page is not done
 
@@ -193,7 +188,7 @@ class DeskPage:
             made = self._edited(self.edits)
             if made == self.text:
                 return False
-            self._write(made)
+            self._write(made, FOLLOW)
             return True
 
     # The trapped plates
@@ -224,12 +219,13 @@ class DeskPage:
                     "version": self.version, "shown": self.shown, "epoch": self.epoch, "preview": self.is_preview(),
                     "lacks": ["thin strokes"] * self.lacks_strokes() + ["keepaway"] * self.lacks_keepaway(),
                     "keepaway": self._keepaway(),
-                    "levels": self.before.last_level, "canUndo": bool(self.undo), "canRedo": bool(self.redo),
+                    "levels": self.before.last_level, "canUndo": bool(self.history.undo),
+                    "canRedo": bool(self.history.redo),
                     "inks": [self._ink(k) for k in range(len(self.names))], "settings": self._settings(self.job),
                     "edits": self._edits_json(), "jobZones": self._job_zones(),
                     "canSoftProof": self.inks.soft is not None,
                     "rules": rules_of(self.original, self.edits, self.first is not None),
-                    "versions": [{"number": one.number, "time": one.time} for one in self.versions]}
+                    "versions": [{"number": one.number, "time": one.time} for one in self.history.versions]}
 
     def _edits_json(self) -> dict[str, Any]:
         zones = [{"name": zone.name, "settings": dict(zone.settings), "overImages": zone.over_images,
@@ -276,8 +272,3 @@ class DeskPage:
         return [{"rings": [self._pixels(one) for one in zone.subpaths], "name": name,
                  "settings": {key: getattr(zone.parameters, field_name) for key, field_name in KEYS.items()}}
                 for zone, name in zip(self.job.zones[1:], zone_names(self.text))]
-
-
-def now() -> str:
-    """The time, as people and programs read it."""
-    return time.strftime("%Y-%m-%d %H:%M:%S%z")

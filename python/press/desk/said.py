@@ -10,7 +10,8 @@ from typing import Any
 from press.folder import TABLE
 
 from .edits_json import BadRequest
-from .page import DeskPage, now
+from .history import now
+from .page import DeskPage
 from .pyramid import plates_key
 from .record import changing, said_of
 
