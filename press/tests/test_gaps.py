@@ -8,6 +8,11 @@ from press import gaps
 pytestmark = pytest.mark.quick
 
 
+def bared(planes: list[numpy.ndarray], densities: list[float], radius: int) -> numpy.ndarray:
+    """Where gaps open before trapping."""
+    return gaps.bared_twice(planes, planes, densities, radius, range(planes[0].shape[0]))[0]
+
+
 def slow(planes: list[numpy.ndarray], densities: list[float], radius: int) -> numpy.ndarray:
     """The definition, sample by sample."""
     height, width = planes[0].shape
@@ -27,7 +32,7 @@ def test_random_planes(radius: int) -> None:
     """The band-wise sum finds the samples that the definition names."""
     chance = numpy.random.default_rng(radius)
     planes = [numpy.where(chance.random((9, 13)) < 0.6, 0, 255).repeat(4, 0).repeat(4, 1).astype("u1") for _ in range(3)]
-    found = gaps.bared(planes, [0.61, 0.76, 1.7], radius)
+    found = bared(planes, [0.61, 0.76, 1.7], radius)
     assert (found == slow(planes, [0.61, 0.76, 1.7], radius)).all() and found.any()
 
 
@@ -35,9 +40,9 @@ def test_edges_on_paper_are_no_gaps() -> None:
     """Paper lies beside the edge of a shape on bare paper in register too; two inks that meet can part."""
     cyan, magenta = (numpy.full((20, 40), 255, dtype="u1") for _ in range(2))
     cyan[:, 10:20] = 0
-    assert not gaps.bared([cyan, magenta], [0.61, 0.76], 1).any()
+    assert not bared([cyan, magenta], [0.61, 0.76], 1).any()
     magenta[:, 20:30] = 0
-    assert gaps.bared([cyan, magenta], [0.61, 0.76], 1)[:, 19:21].all()
+    assert bared([cyan, magenta], [0.61, 0.76], 1)[:, 19:21].all()
     # An overlap of two samples closes what plates off by one each open.
     magenta[:, 18:30] = 0
-    assert not gaps.bared([cyan, magenta], [0.61, 0.76], 1)[:, 15:25].any()
+    assert not bared([cyan, magenta], [0.61, 0.76], 1)[:, 15:25].any()

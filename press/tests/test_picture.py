@@ -8,7 +8,7 @@ import pytest
 from press import picture
 from press.folder import JOB, PageFolder, PageSource, write_table
 from press.inks import Ink
-from press.plates import write_pgm
+from press.plates import thickened, write_pgm
 
 pytestmark = pytest.mark.quick
 INKS = (Ink("Cyan", b"Cyan", b"Cyan", "0.61", look=(100, 0, 0, 0)), Ink("Magenta", b"Magenta", b"Magenta", "0.76", look=(0, 100, 0, 0)),
@@ -92,5 +92,5 @@ def test_marks_are_thickened() -> None:
     """A mark grows by a sample to the left and right, above and below."""
     where = numpy.zeros((5, 5), dtype=bool)
     where[2, 2] = True
-    assert numpy.argwhere(picture.thickened(where, 1)).tolist() == [[1, 2], [2, 1], [2, 2], [2, 3], [3, 2]]
-    assert picture.thickened(where, 2).sum() == 13
+    assert numpy.argwhere(thickened(where)).tolist() == [[1, 2], [2, 1], [2, 2], [2, 3], [3, 2]]
+    assert thickened(thickened(where)).sum() == 13

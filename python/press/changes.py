@@ -42,12 +42,6 @@ class Changes:
     counts: Array
 
 
-def changes_of(before: Sequence[Array], after: Sequence[Array], times: int, grid: Grid) -> Changes:
-    """What changed between plates (rows × columns, 0 is full ink). What makes no square at the right or lower edge has
-    no mark."""
-    return together([changes_in(before, after, times, grid, range(before[0].shape[0]))], before[0], times)
-
-
 @dataclass(frozen=True)
 class Found:
     """What changed in some rows. `places` are for each plate those of its points on the small picture."""
@@ -58,7 +52,8 @@ class Found:
 
 
 def changes_in(before: Sequence[Array], after: Sequence[Array], times: int, grid: Grid, rows: range) -> Found:
-    """What changed in some rows of plates, band by band."""
+    """What changed in some rows of plates (rows × columns, 0 is full ink), band by band. What makes no square at the
+    right or lower edge has no place."""
     shape, added = before[0].shape, [0] * len(before)
     places: list[list[Array]] = [[] for _ in before]
     counts = grid.of_places(numpy.zeros(0, dtype="i8"), shape)
@@ -114,9 +109,3 @@ def marked(places: Array, shape: tuple[int, ...], times: int) -> Array:
     out = numpy.zeros(small_shape(shape, times), dtype=bool)
     out.flat[places] = True
     return out
-
-
-def made_small(where: Array, times: int) -> Array:
-    """An array of bool made small: a point is set if some sample of its square is."""
-    row, column = numpy.divmod(numpy.flatnonzero(where), where.shape[1])
-    return marked(small_places(row, column, where.shape, times), where.shape, times)

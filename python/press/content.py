@@ -50,14 +50,9 @@ class Coverage:
     place: tuple[float, float]
 
 
-def middle_of(rect: Rect) -> tuple[float, float]:
-    """The middle of a rectangle, in millimetres."""
-    return (rect.left + rect.right) / 2 * MILLIMETRES, (rect.lower + rect.upper) / 2 * MILLIMETRES
-
-
 def placed(kind: str, page: int, rect: Rect, text: str) -> Finding:
     """A note of a place, which stands where the text has AT."""
-    x, y = middle_of(rect)
+    x, y = (rect.left + rect.right) / 2 * MILLIMETRES, (rect.lower + rect.upper) / 2 * MILLIMETRES
     return Finding(kind, NOTE, page, text.replace(AT, f"at {x:.0f}, {y:.0f} mm"), place=(x, y))
 
 
@@ -322,17 +317,12 @@ def layer_findings(pdf: Any) -> Iterator[Finding]:
 
 def intent_findings(pdf: Any, settings: Settings) -> Iterator[Finding]:
     """The output intents of a file, and whether one is used."""
-    names = intents_of(pdf)
+    names = [str(one.get("/OutputConditionIdentifier", one.get("/Info", "without a name")))
+             for one in pdf.Root.get("/OutputIntents", [])]
     if names:
         unused = f"it gives way to --icc {settings.icc}" if settings.icc else "it is used"
         state = unused if settings.output_intent else "it is not used (--output-intent uses it)"
         yield Finding("output-intent", NOTE, None, f"output intent {', '.join(names)}; {state}")
-
-
-def intents_of(pdf: Any) -> list[str]:
-    """The conditions that the output intents name."""
-    return [str(one.get("/OutputConditionIdentifier", one.get("/Info", "without a name")))
-            for one in pdf.Root.get("/OutputIntents", [])]
 
 
 def intent_profile(path: str, out: str) -> bool:

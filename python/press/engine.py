@@ -12,7 +12,6 @@ from . import keepaway, programs, tools
 from .errors import PressError, Status
 from .files import folder_beside, link_or_copy, named, put_folder, scratch_folder
 from .folder import CHECK, JOB, JSON, REPORT, TRAPPED, PageFolder, read_layout
-from .inks import Ink
 from .job import Job, file_place
 from .names import readable
 from .plates import LONGEST_SHEET_SIDE, LONGEST_SIDE, MOST_SAMPLES, fits_page
@@ -171,19 +170,15 @@ def check(page: PageFolder, out: str, radius: int) -> tuple[str, ...]:
     return ()
 
 
-def json_of(ink: Ink, report: Report) -> dict[str, Any]:
-    """An ink of a page, as report.json has it."""
-    return {"ink": readable(ink.colorant), "name": ink.name, "density": float(ink.density), "kind": ink.kind,
-            "role": ink.role, "has_ink": ink.has_ink, "changed": report.plates.get(ink.name, 0)}
-
-
 def write_json(page: PageFolder, report: Report, made: str, kept: keepaway.Done) -> None:
     """The report as JSON, with what is known of the inks, what was drawn back, and what presscheck counted."""
     head, source = page.head, page.source
+    inks = [{"ink": readable(ink.colorant), "name": ink.name, "density": float(ink.density), "kind": ink.kind,
+             "role": ink.role, "has_ink": ink.has_ink, "changed": report.plates.get(ink.name, 0)} for ink in page.inks]
     text: dict[str, Any] = {
         "source": readable(source.pdf), "page": source.page, "resolution": source.resolution, "width": head.width,
         "height": head.height, "maxval": head.maxval, "edges": report.edges, "zones": list(report.zones),
-        "inks": [json_of(ink, report) for ink in page.inks], "samples_changed": report.changed,
+        "inks": inks, "samples_changed": report.changed,
         keepaway.KEY: kept.as_data()}
     with contextlib.suppress(FileNotFoundError), open(os.path.join(made, CHECK), encoding="utf-8") as file:
         counted = dict(line.split() for line in file if len(line.split()) == 2)

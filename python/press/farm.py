@@ -18,6 +18,7 @@ from .files import LOCK, head_of, locked, scratch_folder, size_text, sweep, temp
 from .findings import WARNING, refusal_for
 from .folder import JobFolder
 from .inks import open_book
+from .job_record import changing_record
 from .names import MOST_PLATES, PROCESS
 from .pdf_beside import write_for
 from .printing import FarmLines, end_line
@@ -199,14 +200,17 @@ def with_hosts(farm: Farm, progress: FarmLines) -> Farm:
     """The same farm with those machines alone that can work. A warning names each other one."""
     if not farm.hosts:
         return farm
-    logins = farm_hosts.logins_of(farm.hosts)
+    logins = list(dict.fromkeys(login for login in map(str.strip, farm.hosts.split(",")) if login))
     with tempfile.NamedTemporaryFile(prefix=temporary_name(), dir=farm.out) as token:
         script = farm_hosts.probe_script(farm.path, farm.out, os.path.join(farm.out, os.path.basename(token.name)))
         others = [login for login in logins if login != farm_hosts.LOCAL]
         faults = farm_hosts.probe(others, script, FOR_PAGES, environment_of(farm.out))
     for login, why in faults.items():
         progress.drop(login, why)
-    return replace(farm, hosts=",".join(farm_hosts.need_one(logins, faults)))
+    left = [login for login in logins if login not in faults]
+    if not left:
+        raise PressError(Status.NO_TOOL, "none of its machines can work", ", ".join(logins))
+    return replace(farm, hosts=",".join(left))
 
 
 def run_farm(farm: Farm, progress: FarmLines) -> Status:
@@ -229,7 +233,8 @@ def run_plan(farm: Farm, given: identity.Input, plan: Plan, progress: FarmLines)
         farm = with_hosts(farm, progress)
         if not farm.again:
             identity.claim(job, given.file, plan.source.count, farm.settings, farm.pages)
-            farm_record.note_pages(farm.out, farm.pages)
+            with changing_record(farm.out) as record:
+                record[farm_record.PART] = {"pages": list(farm.pages)}
         progress.begin(plan.pages, plan.source.count, plan.source.converted)
         has_failed = make_pages(farm, given, plan, progress)
         line = given.changed_line()

@@ -10,7 +10,6 @@ import time
 from collections.abc import Iterator, Mapping, Sequence
 
 from . import tools
-from .errors import PressError, Status
 
 # How long a machine may take to answer, in seconds; how many are asked at once; what one prints that can work.
 PROBE_SECONDS, AT_ONCE, READY = 60, 32, "press-farm: ready"
@@ -72,16 +71,3 @@ def probe(logins: Sequence[str], script: str, variables: Sequence[str],
                 if why:
                     faults[login] = why
     return faults
-
-
-def logins_of(hosts: str) -> list[str]:
-    """The machines that --hosts names, each once."""
-    return list(dict.fromkeys(part for part in (one.strip() for one in hosts.split(",")) if part))
-
-
-def need_one(logins: Sequence[str], faults: Mapping[str, str]) -> list[str]:
-    """The machines that can work. Refuses a farm without any."""
-    left = [login for login in logins if login not in faults]
-    if not left:
-        raise PressError(Status.NO_TOOL, "none of its machines can work", ", ".join(logins))
-    return left

@@ -4,17 +4,12 @@ from collections.abc import Sequence
 from typing import Any
 
 from .errors import PressError, Status, UsageError
-from .job_record import OPTIONS, changing_record, file_of, input_file, options_of, read_record
+from .job_record import OPTIONS, file_of, input_file, options_of, read_record
 from .recorded import options_from, settings_from, without_run_only, words_from
 from .settings import Settings
 
+# The part of the record, with the pages that --page asked for; none for all.
 PART = "farm"
-
-
-def note_pages(out: str, pages: Sequence[int]) -> None:
-    """Records the pages that --page asked for; none for all."""
-    with changing_record(out) as record:
-        record[PART] = {"pages": list(pages)}
 
 
 def recorded(path: str, out: str) -> tuple[dict[str, Any], tuple[int, ...]]:

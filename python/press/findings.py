@@ -22,6 +22,11 @@ class Finding:
     status: Status = Status.WARNED
     place: tuple[float, float] | None = None
 
+    @property
+    def said(self) -> str:
+        """The text, with the page that it is of."""
+        return f"page {self.page}: {self.text}" if self.page else self.text
+
     def as_data(self) -> dict[str, Any]:
         """The finding for machines."""
         place = {} if self.place is None else {"place": [round(side, 1) for side in self.place]}

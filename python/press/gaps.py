@@ -33,14 +33,10 @@ def spread(plane: Array, radius: int, choose: Callable[..., Any]) -> Array:
     return out
 
 
-def bared(planes: Sequence[Array], densities: Sequence[float], radius: int) -> Array:
-    """Where gaps open: an array of bool, rows × columns. The planes have 8 bits, 0 is full ink."""
-    return bared_twice(planes, planes, densities, radius, range(planes[0].shape[0]))[0]
-
-
 def bared_twice(before: Sequence[Array], after: Sequence[Array], densities: Sequence[float], radius: int,
                 rows: range) -> tuple[Array, Array]:
-    """Where gaps open in some rows before trapping, and after. What did not change is looked at once."""
+    """Where gaps open in some rows before trapping, and after: arrays of bool, rows × columns. The planes have 8 bits,
+    0 is full ink. What did not change is looked at once."""
     out = [numpy.zeros((len(rows), before[0].shape[1]), dtype=bool) for _ in range(2)]
     for lines, columns, around in stretches(before, after, densities, radius, rows):
         own = tuple(slice(one.start - far.start, one.stop - far.start) for one, far in zip((lines, columns), around))

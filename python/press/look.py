@@ -12,7 +12,7 @@ from PIL import Image
 from .errors import UsageError
 from .files import whole_file
 from .folder import PageFolder
-from .picture import Painter, Part, Shift, usual_shifts
+from .picture import Painter, Part, Shift, mean_of, usual_shifts
 from .plates import Array
 
 SPACE, PNG_LEVEL = 12, 6
@@ -129,14 +129,9 @@ def part_of(text: str | None, painter: Painter) -> Part:
 
 def shrunk(picture: Array, times: int) -> Array:
     """Each square of samples as one point of their mean; a strip at the edge that makes no square is left out."""
-    if times == 1:
-        return picture
-    height, width = picture.shape[0] // times * times, picture.shape[1] // times * times
-    if height == 0 or width == 0:
+    if min(picture.shape[:2]) < times:
         raise UsageError(f"--shrink {times} leaves nothing of the picture")
-    squares = picture[:height, :width].reshape(height // times, times, width // times, times, 3)
-    means: Array = squares.mean(axis=(1, 3)).round().astype("u1")
-    return means
+    return mean_of(picture, times)
 
 
 def enlarged(picture: Array, times: int) -> Array:

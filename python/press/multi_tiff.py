@@ -23,18 +23,6 @@ def resource(number: int, data: bytes) -> bytes:
     return b"8BIM" + struct.pack(">HHI", number, 0, len(data)) + data + b"\0" * (len(data) % 2)
 
 
-def pascal_name(ink: Ink) -> bytes:
-    """The ink's name with its length before it."""
-    name = readable(ink.colorant).encode("latin-1", "replace")[:LONGEST_PASCAL]
-    return bytes([len(name)]) + name
-
-
-def unicode_name(ink: Ink) -> bytes:
-    """The ink's name in UTF-16, with a last character of 0, and with the number of characters before it."""
-    name = (readable(ink.colorant) + "\0").encode("utf-16-be", "replace")
-    return struct.pack(">I", len(name) // 2) + name
-
-
 def look(ink: Ink) -> bytes:
     """What a spot looks like, in CMYK, where 0 is full ink; that it is solid; and that it is a spot channel."""
     parts = (round(FULL * (1 - part / 100)) for part in ink.look)
@@ -42,9 +30,13 @@ def look(ink: Ink) -> bytes:
 
 
 def photoshop_resources(spots: Sequence[Ink]) -> bytes:
-    """The resources for channels beyond CMYK."""
-    return resource(NAMES, b"".join(map(pascal_name, spots))) + \
-        resource(UNICODE_NAMES, b"".join(map(unicode_name, spots))) + resource(LOOKS, b"".join(map(look, spots)))
+    """The resources for channels beyond CMYK: their names, with the number of bytes before each; in UTF-16 with a last
+    character of 0, with the number of characters before each; and their looks."""
+    names = [readable(ink.colorant).encode("latin-1", "replace")[:LONGEST_PASCAL] for ink in spots]
+    wide = [(readable(ink.colorant) + "\0").encode("utf-16-be", "replace") for ink in spots]
+    return resource(NAMES, b"".join(bytes([len(name)]) + name for name in names)) + \
+        resource(UNICODE_NAMES, b"".join(struct.pack(">I", len(name) // 2) + name for name in wide)) + \
+        resource(LOOKS, b"".join(map(look, spots)))
 
 
 def multi_tags(inks: Sequence[Ink], place: str) -> list[Tag]:

@@ -10,10 +10,10 @@ import numpy as np
 
 from .command import version
 from .files import need_room, write_text
+from .folder import PageFolder
 from .job_record import digest_of
 from .names import readable
-from .plates import Array, release
-from .trapped_page import TrappedPage
+from .plates import Array, Plates, release
 
 ROWS = 1024
 
@@ -43,17 +43,14 @@ def changed(before: Array, after: Array) -> int:
     return count
 
 
-def ink_figures(page: TrappedPage) -> list[dict[str, Any]]:
-    """For each ink its names, its coverage in per cent, and how many pixels of its plate trapping changed."""
-    return [{"name": readable(ink.colorant), "job_name": ink.name, "coverage": coverage(after),
-             "changed": changed(before, after)}
-            for ink, before, after in zip(page.folder.inks, page.before.arrays, page.after.arrays)]
-
-
-def page_figures(page: TrappedPage) -> dict[str, Any]:
-    """What is said of a page."""
-    return {"page": page.number, "resolution": page.dpi, "width": page.size[0], "height": page.size[1],
-            "inks": ink_figures(page)}
+def page_figures(page: PageFolder, plates: Plates, before: Plates | None = None) -> dict[str, Any]:
+    """What is said of a page: its size, and for each ink its names, its coverage in per cent, and how many pixels of
+    its plate trapping changed, if the plates before are given."""
+    inks = [{"name": readable(ink.colorant), "job_name": ink.name, "coverage": coverage(array, plates.maxval),
+             **({"changed": changed(before[ink.name], array)} if before else {})}
+            for ink, array in zip(page.inks, plates.arrays)]
+    return {"page": page.source.page, "resolution": page.source.resolution, "width": plates.width,
+            "height": plates.height, "inks": inks}
 
 
 def file_figures(path: str, name: str) -> dict[str, Any]:

@@ -43,12 +43,13 @@ def light_of(look: Look) -> Light:
 
 
 def mean_of(plane: Array, times: int) -> Array:
-    """Each square of samples as one of their mean; what makes no square at the right or lower edge is left out."""
+    """Each square of samples, or of points of a picture, as one of their mean; what makes no square at the right or
+    lower edge is left out."""
     if times == 1:
         return plane
     height, width = max(1, plane.shape[0] // times), max(1, plane.shape[1] // times)
     cut = plane[:height * times, :width * times]
-    if cut.shape != (height * times, width * times):
+    if cut.shape[:2] != (height * times, width * times):
         return plane[:height, :width]
     wide = "u2" if 255 * times * times < 1 << 16 else "u4"
     rows = cut[::times].astype(wide)
@@ -228,19 +229,6 @@ def pale(picture: Array) -> Array:
     """A picture in light gray."""
     gray = picture.mean(axis=2, dtype="f4")
     return numpy.repeat((205 + gray * 50 / 255).astype("u1")[:, :, None], 3, axis=2)
-
-
-def thickened(where: Array, times: int) -> Array:
-    """The samples within so many of some that are marked, so that a hair of a trap is seen on a small picture."""
-    out = where.copy()
-    for _ in range(times):
-        grown = out.copy()
-        grown[1:] |= out[:-1]
-        grown[:-1] |= out[1:]
-        grown[:, 1:] |= out[:, :-1]
-        grown[:, :-1] |= out[:, 1:]
-        out = grown
-    return out
 
 
 # Widths

@@ -91,6 +91,16 @@ def release(*arrays: Array) -> None:
             mapped.madvise(mmap.MADV_DONTNEED)
 
 
+def thickened(marks: Array) -> Array:
+    """Samples that are marked, and those to the left and right, above and below of one that is: an array of bool."""
+    out: Array = marks.copy()
+    out[1:] |= marks[:-1]
+    out[:-1] |= marks[1:]
+    out[:, 1:] |= marks[:, :-1]
+    out[:, :-1] |= marks[:, 1:]
+    return out
+
+
 def is_blank(array: Array, maxval: int) -> bool:
     """Whether a plate has no ink anywhere. It is looked at block by block."""
     rows = max(1, BLOCK_BYTES // max(1, array.shape[1] * array.itemsize))

@@ -23,7 +23,7 @@ from .layout import box_line, layer_lines
 from .names import MOST_PLATES, PROCESS, job_names, readable
 from .page import Page, layout_of, lost_edits, option_edits, prepare, room_line
 from .pairs import pairs_file, read_pairs
-from .plates import LONGEST_SHEET_SIDE, LONGEST_SIDE, MOST_SAMPLES, Array, Plates
+from .plates import LONGEST_SHEET_SIDE, LONGEST_SIDE, MOST_SAMPLES, Plates, thickened
 from .settings import Settings, house_file
 from .source import BOX_NAMES, PageInfo, Source, is_empty, lacks_box, open_source
 from .tables import counts
@@ -401,22 +401,12 @@ def knocked_out(plates: Plates, technical: str, others: Sequence[str]) -> tuple[
             other = plates[name][top:bottom]
             much |= other <= MUCH
             some |= other < LITTLE
-        hole = ((ink <= MUCH) & ~some & beside(much & (ink >= LITTLE)))[first - top:end - top]
+        hole = ((ink <= MUCH) & ~some & thickened(much & (ink >= LITTLE)))[first - top:end - top]
         if hole.any() and not count:
             row, column = numpy.unravel_index(int(hole.argmax()), hole.shape)
             place = int(column), first + int(row)
         count += int(hole.sum())
     return count, place
-
-
-def beside(marks: Array) -> Array:
-    """The samples to the left and right, above and below of those that are marked."""
-    out = numpy.zeros(marks.shape, dtype=bool)
-    out[1:] |= marks[:-1]
-    out[:-1] |= marks[1:]
-    out[:, 1:] |= marks[:, :-1]
-    out[:, :-1] |= marks[:, 1:]
-    return out
 
 
 # What a page takes

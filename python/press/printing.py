@@ -4,7 +4,7 @@ import os
 import re
 import sys
 import time
-from collections.abc import Callable, Iterable
+from collections.abc import Callable
 
 from .command import say, warn
 from .events import Event, FindingMade, PageDone, PageFailed, RunStarted, StepStarted, Warned
@@ -65,9 +65,9 @@ class RunLines:
             return
         self.told.add((one.kind, one.text))
         if one.level == WARNING:
-            self.warn("press-all", (f"{self.path}: page {one.page}: " if one.page else f"{self.path}: ") + one.text)
+            self.warn("press-all", f"{self.path}: {one.said}")
         else:
-            self.tell("note: " + (f"page {one.page}: " if one.page else "") + one.text)
+            self.tell(f"note: {one.said}")
 
 
 class Warnings:
@@ -80,11 +80,10 @@ class Warnings:
         if isinstance(event, RunStarted) and event.converted:
             say(f"note: {self.path}: PostScript: Ghostscript made a PDF of it")
         elif isinstance(event, FindingMade):
-            one = event.finding
-            line = (f"{self.path}: page {one.page}: " if one.page else f"{self.path}: ") + one.text
-            if one.level == WARNING:
+            line = f"{self.path}: {event.finding.said}"
+            if event.finding.level == WARNING:
                 warn(line)
-            elif one.kind == "overridden":
+            elif event.finding.kind == "overridden":
                 say(f"note: {line}")
 
 
@@ -92,17 +91,9 @@ def end_line(end: PageDone | PageFailed) -> str:
     """How a page ended."""
     if isinstance(end, PageFailed):
         return f"page {end.page}: failed: {end.why}"
-    if end.kept:
-        return (f"page {end.page}: done: not changed, its results are kept; {end.seconds:.1f} s, "
-                f"{size_text(end.disk)} of disk")
-    return (f"page {end.page}: done: {end.plates} plates, {end.changed} samples changed, {end.seconds:.1f} s, "
-            f"{size_text(end.disk)} of disk")
-
-
-def print_ends(ends: Iterable[PageDone | PageFailed]) -> None:
-    """A line on standard output for each page."""
-    for end in ends:
-        print(clean(end_line(end)))
+    what = f"{end.plates} plates, {end.changed} samples changed," if not end.kept else \
+        "not changed, its results are kept;"
+    return f"page {end.page}: done: {what} {end.seconds:.1f} s, {size_text(end.disk)} of disk"
 
 
 class FarmLines:

@@ -18,8 +18,8 @@ from .findings import page_ranges
 from .folder import (JOB, JSON, NO_PLATES, PART, REPORT, SHEET, TABLE, TRAPPED, WARNINGS, JobFolder, PageFolder,
                      read_layout, read_table, read_text)
 from .names import readable
-from .picture import Painter, Part, mean_of, pale, shifted, thickened, trap_width
-from .plates import Array
+from .picture import Painter, Part, mean_of, pale, shifted, trap_width
+from .plates import Array, thickened
 from .proof_html import data_uri, escaped, image, long, swatch, table
 from .proof_outputs import screened_reports, screened_text, trapped_pdf_text
 from .tables import is_seen
@@ -157,7 +157,7 @@ class Sheet:
 
     def small_marks(self, places: Sequence[Array]) -> Array:
         """Marks on the small picture, grown by a point."""
-        return thickened(marked(numpy.concatenate(places), self.painter.before[0].shape, self.times), 1)
+        return thickened(marked(numpy.concatenate(places), self.painter.before[0].shape, self.times))
 
     def small(self) -> tuple[Array, Array]:
         """The small picture before and after."""
@@ -168,7 +168,7 @@ class Sheet:
         """The traps on the small picture."""
         traps = pale(before)
         for light, marks in zip(self.painter.lights, self.changes.marks):
-            traps[thickened(marks, 1)[:traps.shape[0], :traps.shape[1]]] = light
+            traps[thickened(marks)[:traps.shape[0], :traps.shape[1]]] = light
         return traps
 
     def map(self, before: Array) -> Array:

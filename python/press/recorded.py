@@ -21,18 +21,14 @@ PATHS = ("icc", "inks", "zones", "pairs")
 
 @functools.cache
 def actions() -> dict[str, argparse.Action]:
-    """The options that are recorded, by the longest name that each has on a command line, without dashes."""
+    """The options that are recorded, by the longest name that each has on a command line, without dashes; but for those
+    that stand for another one with a value, --no-keepaway for --keepaway off."""
     made = argparse.ArgumentParser(add_help=False)
     add_made_options(made)
     add_page_choice(made)
     # pylint: disable-next=protected-access
     return {one.option_strings[-1][2:]: one for one in made._actions
-            if one.dest not in OF_A_RUN and not is_short_form(one)}
-
-
-def is_short_form(action: argparse.Action) -> bool:
-    """Whether an option stands for another one with a value: --no-keepaway for --keepaway off."""
-    return isinstance(action.const, str)
+            if one.dest not in OF_A_RUN and not isinstance(one.const, str)}
 
 
 def options_from(settings: Settings, out: str) -> dict[str, Any]:
@@ -40,8 +36,11 @@ def options_from(settings: Settings, out: str) -> dict[str, Any]:
     the folder OUT."""
     found: dict[str, Any] = {}
     for name, action in actions().items():
-        if action.dest.replace("_", "-") in PARAMETERS:
-            value: Any = given_parameter(settings, action.dest.replace("_", "-"))
+        parameter = action.dest.replace("_", "-")
+        if parameter in PARAMETERS:
+            given = settings.parameters.get(parameter)
+            # What a preset sets is recorded by its name.
+            value: Any = given.text if given and (given.is_option or not settings.preset) else None
         else:
             value = getattr(settings, action.dest)
         if value is None or value == getattr(Settings(), action.dest, None):
@@ -55,12 +54,6 @@ def options_from(settings: Settings, out: str) -> dict[str, Any]:
 def recorded_path(path: str, out: str) -> str:
     """A path as a record has it: as it is, or from OUT on."""
     return path if os.path.isabs(path) else os.path.relpath(os.path.realpath(path), os.path.realpath(out))
-
-
-def given_parameter(settings: Settings, name: str) -> str | None:
-    """The text of a trapping parameter, unless it is the preset's."""
-    value = settings.parameters.get(name)
-    return None if value is None or settings.preset and not value.source.startswith("--") else value.text
 
 
 def words_from(options: Mapping[str, Any], out: str) -> list[str]:

@@ -72,11 +72,6 @@ def keepaway_of(text: str, what: str) -> float:
     return 0.0 if text == "off" else width_of(text, what, ', or "off"')
 
 
-def factor_of(text: str, what: str) -> float:
-    """The factor of the trap width at black."""
-    return number(text, 0.0001, 10, what)
-
-
 def share_of(text: str, what: str, most: int = 1) -> float:
     """A share of 1, or hundredths with a % after them."""
     whole_is = 100 if text.endswith("%") else 1
@@ -122,7 +117,7 @@ class Parameter:
 # The parameters by the names that options (--width) and lines of presets (width 0.1mm) have.
 PARAMETERS = {
     "width": Parameter("TrapWidth", width_of),
-    "black-width": Parameter("BlackWidth", factor_of),
+    "black-width": Parameter("BlackWidth", lambda text, what: number(text, 0.0001, 10, what)),
     "step": Parameter("StepLimit", share_of,
                       "how much two inks have to change, each its own way, for an edge to be trapped"),
     "slide": Parameter("SlidingTrapLimit", share_of,
@@ -345,7 +340,8 @@ def add_page_options(parser: argparse.ArgumentParser) -> None:
     add("--trap-images", action="store_true",
         help="traps within images too; without it their places become zones that are not enabled")
     add_zone_options(parser)
-    add_time_option(parser)
+    add("-t", "--time", metavar="S", type=whole("--time", 1, MOST_SECONDS),
+        help="refuses a page whose rendering takes more than S seconds")
 
 
 def add_ink_options(parser: argparse.ArgumentParser) -> None:
@@ -383,12 +379,6 @@ def add_zone_options(parser: argparse.ArgumentParser) -> None:
     add("--layer", metavar="NAME=..", action="append",
         help="parameters for what a layer paints: NAME=off, or NAME=KEY=VALUE[,KEY=VALUE] with the keys of "
              'trap-job(5), such as "White=Enabled=false"')
-
-
-def add_time_option(parser: argparse.ArgumentParser) -> None:
-    """The limit of Ghostscript's time."""
-    parser.add_argument("-t", "--time", metavar="S", type=whole("--time", 1, MOST_SECONDS),
-                        help="refuses a page whose rendering takes more than S seconds")
 
 
 def add_engine_options(parser: argparse.ArgumentParser) -> None:

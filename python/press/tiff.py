@@ -21,8 +21,8 @@ from .files import folder_beside, head_of, named
 from .folder import PageFolder
 from .inks import Ink
 from .multi_tiff import multi_tags
-from .names import PROCESS, readable
-from .output_report import coverage, file_figures, write_report
+from .names import PROCESS
+from .output_report import file_figures, page_figures, write_report
 from .plates import Array, Plates
 from .separation_tiff import STRIP_BYTES, needs_big, write_separation
 from .settings import Settings
@@ -118,12 +118,9 @@ def write_multi(path: bytes, page: PageFolder, plates: Plates) -> None:
 
 def write_report_of(folder: str, name: str, page: PageFolder, plates: Plates) -> None:
     """Writes the report of the files in a folder: the inks, and each file with its digest."""
-    inks = [{"name": readable(ink.colorant), "job_name": ink.name, "coverage": coverage(array, plates.maxval)}
-            for ink, array in zip(page.inks, plates.arrays)]
     files = [file_figures(os.path.join(folder, file), file) for file in sorted(os.listdir(folder))]
-    write_report(os.path.join(folder, name + ".json"), "press-tiff", {
-        "page": page.source.page, "resolution": page.source.resolution, "width": plates.width, "height": plates.height,
-        "inks": inks, "files": files})
+    figures = {**page_figures(page, plates), "files": files}
+    write_report(os.path.join(folder, name + ".json"), "press-tiff", figures)
 
 
 def write_page(writer: tifffile.TiffWriter, page: TiffPage, plates: Plates) -> None:

@@ -74,7 +74,8 @@ class Trace:
             if self.path is not None:
                 self.add_point(tag, values)
         elif tag == "tile":
-            self.tiles.append(tile_of(values))
+            area = [float(part) for part in values.get("area", "").split()]
+            self.tiles.append(corners_of(matrix_of(values), *(area if len(area) == 4 else (0, 0, 0, 0))))
             if len(self.tiles) == 1:
                 self.add_mark([self.tiles[0]])
         elif tag == "layer":
@@ -97,7 +98,7 @@ class Trace:
             self.add_mark([points])
             self.note_paint(around(points), math.sqrt(abs(a * d - b * c)) * scale_of(self.matrix))
         elif tag == "fill_image_mask":
-            self.add_mark([corners_of(matrix_of(values), 0, 0, 1, 1)])
+            self.add_mark([corners_of(matrix_of(values))])
         elif tag.startswith("clip_"):
             # Polygons of a clip by a path are kept; any other, of text or of a mask, cuts nothing away here.
             self.clips.append([])
@@ -210,7 +211,7 @@ class Trace:
         """An image that is no line work. A pattern with an image in it is image as far as it goes."""
         if int(values.get("width", 0)) * int(values.get("height", 0)) < LEAST_SAMPLES:
             return
-        corners = self.tiles[0] if self.tiles else corners_of(matrix_of(values), 0, 0, 1, 1)
+        corners = self.tiles[0] if self.tiles else corners_of(matrix_of(values))
         if not self.images or self.images[-1].corners != corners:
             self.order += 1
             self.note_resolution(values, corners)
@@ -241,16 +242,9 @@ def mapped(matrix: Matrix, x: float, y: float) -> Point:
     return a * x + c * y + e, b * x + d * y + f
 
 
-def corners_of(matrix: Matrix, left: float, lower: float, right: float, upper: float) -> Polygon:
-    """The corners of a rectangle under a matrix."""
+def corners_of(matrix: Matrix, left: float = 0, lower: float = 0, right: float = 1, upper: float = 1) -> Polygon:
+    """The corners of a rectangle under a matrix, of the square of an image if none is given."""
     return [mapped(matrix, x, y) for x, y in ((left, lower), (right, lower), (right, upper), (left, upper))]
-
-
-def tile_of(values: dict[str, str]) -> Polygon:
-    """The corners of what a pattern covers."""
-    area = [float(part) for part in values.get("area", "").split()]
-    left, lower, right, upper = area if len(area) == 4 else (0, 0, 0, 0)
-    return corners_of(matrix_of(values), left, lower, right, upper)
 
 
 def curve_point(points: Polygon, t: float) -> Point:
