@@ -443,13 +443,70 @@ def test_text_has_contrast_and_controls_have_names(desk, scheme):
     assert unnamed == []
 
 
+def separations(page, folder):
+    """The plates of a page as gray TIFF files in a folder, and their names."""
+    subprocess.run([str(Path(tools.PRESS) / "tiff"), "-u", str(page), str(folder)], check=True)
+    return [f"made-1({name}).tif" for name in ("Cyan", "Magenta", "Yellow", "Black")]
+
+
+def become_one_page(desk, page):
+    """Waits until four separations are a page, whose plates are those of another one."""
+    desk.wait("return desk.app.jobs.some((one) => one.name.includes('4 separations') && one.state === 'done')")
+    made = next(one for one in desk.folder.iterdir() if one.name.startswith("job-")) / "page-001"
+    return all((made / f"{ink}.pgm").read_bytes() == (page / f"{ink}.pgm").read_bytes() for ink in ("Cyan", "Black"))
+
+
 def test_separations_are_dropped_together(desk, tmp_path):
     """TIFF files that are chosen at once become one page."""
     page = desk.folder / "made" / "page-001"
-    subprocess.run([str(Path(tools.PRESS) / "tiff"), "-u", str(page), str(tmp_path / "tiff")], check=True)
-    files = [str(tmp_path / "tiff" / f"made-1({name}).tif") for name in ("Cyan", "Magenta", "Yellow", "Black")]
+    names = separations(page, tmp_path / "tiff")
     desk.open()
-    desk.browser.find_element(By.ID, "file").send_keys("\n".join(files))
-    desk.wait("return desk.app.jobs.some((one) => one.name.includes('4 separations') && one.state === 'done')")
-    made = next(one for one in desk.folder.iterdir() if one.name.startswith("job-")) / "page-001"
-    assert all((made / f"{ink}.pgm").read_bytes() == (page / f"{ink}.pgm").read_bytes() for ink in ("Cyan", "Black"))
+    desk.browser.find_element(By.ID, "file").send_keys("\n".join(str(tmp_path / "tiff" / name) for name in names))
+    assert become_one_page(desk, page)
+
+
+@pytest.mark.parametrize("is_dropped", [False, True])
+def test_separations_come_as_a_folder(desk, tmp_path, is_dropped):
+    """One that is chosen, and one that is dropped onto the window. What is no TIFF file in it is left out."""
+    page, folder = desk.folder / "made" / "page-001", tmp_path / "tiff"
+    separations(page, folder)
+    (folder / "notes.txt").write_text("for the plant")
+    desk.open()
+    if is_dropped:
+        data = {"items": [], "files": [str(folder)], "dragOperationsMask": 1}
+        for kind in ("dragEnter", "dragOver", "drop"):
+            desk.browser.execute_cdp_cmd("Input.dispatchDragEvent", {"type": kind, "x": 80, "y": 200, "data": data})
+    else:
+        desk.browser.execute_script("document.getElementById('folder').closest('details').open = true")
+        desk.browser.find_element(By.ID, "folder").send_keys(str(folder))
+    desk.wait("return document.getElementById('status').textContent.includes('1 other files were left out')"
+              " || desk.app.jobs.some((one) => one.name.includes('4 separations'))")
+    assert become_one_page(desk, page)
+
+
+def test_keepaway_is_set_in_its_panel(tmp_path):
+    """Off, on, as wide as somebody says, and as wide as traps again. A change is marked as a preview, and the page that
+    follows is that of the command."""
+    from test_desk_keepaway import cyan_of, make_rich_page
+    page = make_rich_page(tmp_path / "jobs" / "made" / "page-001")
+    desk, first = Desk(tmp_path / "jobs"), cyan_of(page)
+    try:
+        desk.open()
+        desk.close_up()
+        desk.settle()
+        assert "Drawn back by 0.50 pt under rich black: Cyan on" in desk.browser.find_element(By.ID, "keepawaybox").text
+        seen = ("window.seen = []; new MutationObserver(() => { const one = document.getElementById('preview');"
+                "if (!one.hidden) seen.push(one.textContent); }).observe(document.querySelector('footer'),"
+                "{subtree: true, childList: true, attributes: true})")
+        desk.browser.execute_script(seen)
+        for act, said in ((lambda: desk.click("#keepaway"), 0), (lambda: desk.click("#keepaway"), None),
+                          (lambda: desk.set("keepawaywidth", 1.25), 12_500), (lambda: desk.click("#keepawayusual"), None)):
+            act()
+            desk.wait(f"return desk.app.page.edits.keepaway === {'null' if said is None else said}")
+            desk.settle()
+            assert np.array_equal(cyan_of(page), first) == (said is None)
+        assert "preview: keepaway follows" in desk.browser.execute_script("return seen")
+        desk.wait("return document.getElementById('preview').hidden")
+        assert files_of(page) == trapped_by_command(page, tmp_path / "again")
+    finally:
+        desk.close()

@@ -515,9 +515,9 @@ def test_the_trapped_plates_can_be_fetched(client, folder):
     assert client.get("/api/outputs/..%2Fpage.job").status_code == 404
 
 
-def fetched(client, key, kind):
+def fetched(client, key, kind, **options):
     """A file of a page, made and fetched once; its key is good for no more."""
-    made = client.post(f"/api/pages/{key}/outputs/{kind}", json={})
+    made = client.post(f"/api/pages/{key}/outputs/{kind}", json=options)
     assert made.status_code == 200, made.text
     answer = client.get(f"/api/outputs/{made.json()['key']}")
     assert client.get(f"/api/outputs/{made.json()['key']}").status_code == 404
@@ -662,6 +662,24 @@ def test_outputs_are_those_of_the_commands(client, folder, tmp_path):
     assert "pdf" not in kinds and {"tiff", "screened", "plates", "report", "report.json", "tables"} <= kinds
     assert client.post(f"/api/pages/{key}/outputs/pdf", json={}).status_code == 422
     assert client.post(f"/api/pages/{key}/outputs/odd", json={}).status_code == 404
+
+
+def test_screened_plates_are_those_of_the_command(client, folder, tmp_path):
+    """TIFF files of one bit a pixel, by the resolution and the screen that the browser asks for."""
+    tifffile = pytest.importorskip("tifffile")
+    if not shutil.which("gs"):
+        pytest.skip("Ghostscript is not installed")
+    key, page = page_of(client), folder / "made" / "page-001"
+    subprocess.run([str(Path(tools.PRESS) / "screen"), "--dpi=600", "--lpi=60", str(page), str(tmp_path / "dots")], check=True)
+    wanted = {path.name: path.read_bytes() for path in (tmp_path / "dots").iterdir()}
+    packed = zipfile.ZipFile(io.BytesIO(fetched(client, key, "screened", dpi=600, lpi=60).content))
+    assert {name: packed.read(name) for name in packed.namelist()} == wanted
+    plates = [name for name in wanted if name.endswith(".tif")]
+    assert len(plates) == 4
+    for name in plates:
+        with tifffile.TiffFile(io.BytesIO(wanted[name])) as file:
+            assert file.pages[0].bitspersample == 1
+            assert file.pages[0].shape == (HEIGHT * 600 // DPI, WIDTH * 600 // DPI)
 
 
 def test_a_page_that_is_not_done_is_not_fetched(client):
