@@ -7,9 +7,9 @@ import pytest
 from press.desk.job_edits import (EditedInk, EditedZone, Edits, apply_edits, number, pixels_of_polygon,
                                   polygon_of_pixels, rules_of, take_apart)
 from press.desk.job_sections import OWNER, sections
-from press.desk.thin_zones import composed, picture_places
 from press.job_language import read_job
 from press.rects import Rect
+from press.zones_anew import composed, picture_places
 
 pytestmark = [pytest.mark.plain, pytest.mark.quick]
 

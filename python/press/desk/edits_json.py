@@ -6,11 +6,11 @@ from collections.abc import Mapping
 from typing import Any
 
 from press.job_language import KEYS, SCALE, Job
+from press.keepaway import page_parameters
 from press.settings import MOST_KEEPAWAY
 
 from .job_edits import EditedInk, EditedZone, Edits, polygon_of_pixels
 from .job_sections import RULES
-from .thin_zones import base_of
 
 MOST_ZONES = 200
 MOST_NAME = 80
@@ -27,7 +27,7 @@ def edits_of(said: Mapping[str, Any], own: Job, resolution: int, height: int) ->
         zones = said["zones"]
         if len(zones) > MOST_ZONES:
             raise BadRequest(f"there are {len(zones)} zones, and at most {MOST_ZONES} can be edited")
-        there = {key: getattr(base_of(own), name) for key, name in KEYS.items()}
+        there = {key: getattr(page_parameters(own), name) for key, name in KEYS.items()}
         settings = {key: value for key, value in settings_of(said["settings"]).items() if value != there[key]}
         off = frozenset(said.get("off", ()))
         if not off <= set(RULES):

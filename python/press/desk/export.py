@@ -3,12 +3,12 @@
 the settings of all pages, and NAME.K.zones for the zones of page K."""
 from __future__ import annotations
 
+from press.keepaway import page_parameters
 from press.names import readable
 
 from .job_edits import dictionary, number, zone_statements
 from .job_sections import OPTIONS, OWNER, sections
 from .page import DeskPage
-from .thin_zones import base_of
 
 RULE_OPTIONS = {"trim": "--trap-within media", "thin": "--no-thin-zones", "images": "--trap-images"}
 
@@ -36,7 +36,7 @@ def zones_file(page: DeskPage) -> str:
     _, text = owner_parts(page)
     below = [zone for zone in page.edits.zones if not zone.over_images]
     above = [zone for zone in page.edits.zones if zone.over_images]
-    text += "".join(zone_statements(zone, base_of(page.job)) for zone in [*below, *above])
+    text += "".join(zone_statements(zone, page_parameters(page.job)) for zone in [*below, *above])
     if above:
         text += "% press/all puts these zones below images: --trap-images traps within images too.\n"
     options = [RULE_OPTIONS[rule] for rule in sorted(page.edits.off)]

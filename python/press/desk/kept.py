@@ -7,8 +7,7 @@ import hashlib
 from pathlib import Path
 
 from press.files import write_text
-
-from .thin_zones import Strokes
+from press.zones_anew import Strokes
 
 FOLDER, RECORD, STROKES = ".desk", "trapped.sha256", "strokes.json"
 

@@ -16,6 +16,7 @@ from press.job_language import KEYS, SCALE, Job
 from press.names import readable
 from press.picture import light_of
 from press.tables import is_seen
+from press.zones_anew import Strokes, composed, first_strokes, rule_of
 
 from .colours import Inks, soft_proof
 from .drawn_back import DrawnBack, LastRun, begun_planes
@@ -27,7 +28,6 @@ from .kept import Kept
 from .live import InkNames, LivePage
 from .pyramid import Pyramid, open_pyramid, plates_key
 from .reading import read_job
-from .thin_zones import Strokes, base_of, composed, first_strokes, rule_of
 
 
 class VersionConflict(Exception):
@@ -247,7 +247,7 @@ class DeskPage:
 
     def _settings(self, job: Job) -> dict[str, int | bool]:
         """The parameters of the page."""
-        return {key: getattr(base_of(job), name) for key, name in KEYS.items()}
+        return {key: getattr(keepaway.page_parameters(job), name) for key, name in KEYS.items()}
 
     def _ink(self, number: int) -> dict[str, Any]:
         ink = self.folder.inks[number]

@@ -20,10 +20,10 @@ from pathlib import Path
 from press import engine, tools
 from press.errors import PressError, Status
 from press.settings import Settings
+from press.zones_anew import Strokes, by_width, rule_of
 
 from .memory import give_back
 from .page import DeskPage
-from .thin_zones import Strokes, by_width, rule_of
 
 LOG = logging.getLogger("press.desk")
 QUIET_SECONDS = 0.25
@@ -140,7 +140,7 @@ class PageRun:
         """Finds the places of thin strokes for the newest job; whether they move a zone."""
         page = self.page
         rule = rule_of(page.job, page.edits)
-        words = [sys.executable, "-B", "-m", "press.desk.thin_zones", page.folder.path]
+        words = [sys.executable, "-B", "-m", "press.desk.find_places", page.folder.path]
         env = {**os.environ, "PYTHONPATH": os.path.join(tools.TOP, "python")}
         with tools.running(words, memory=STROKES_MEMORY, env=env) as child:
             self._started(asked)(child)
