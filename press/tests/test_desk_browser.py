@@ -243,6 +243,27 @@ def test_a_zone_is_drawn_changed_undone_and_kept(desk, tmp_path):
     assert files_of(page) == trapped_by_command(page, tmp_path / "again")
 
 
+def test_a_zone_has_all_settings_of_its_own(desk, tmp_path):
+    """The width is shown, the others as soon as somebody wants them; the page's own stay."""
+    desk.open()
+    desk.browser.execute_script("desk.view.fit()")
+    corners = [[20, 20], [100, 20], [100, 80], [20, 80]]
+    desk.browser.execute_script("desk.drawing.done(arguments[0])", corners)
+    desk.wait("return !!document.querySelector('#zones details')")
+    desk.click("#zones details summary")
+    wanted = {"width": ("TrapWidth", 3.5), "BlackWidth": ("BlackWidth", 1.5), "StepLimit": ("StepLimit", 0.5),
+              "SlidingTrapLimit": ("SlidingTrapLimit", 0.9), "TrapColorScaling": ("TrapColorScaling", 0.6)}
+    before = desk.browser.execute_script("return desk.app.page.settings")
+    for box, (name, value) in wanted.items():
+        desk.set(f"zone-0-{box}", value)
+        desk.wait(f"return desk.app.page.edits.zones[0].settings.{name} === {round(value * 10_000)}")
+    desk.settle()
+    assert desk.browser.find_element(By.ID, "zone-0-StepLimit").is_displayed()
+    assert desk.browser.execute_script("return desk.app.page.settings") == before
+    page = desk.folder / "made" / "page-001"
+    assert files_of(page) == trapped_by_command(page, tmp_path / "again")
+
+
 def test_undo_by_key_gives_the_picture_back(desk):
     """Ctrl+Z, and Ctrl+Shift+Z."""
     desk.open()
@@ -282,6 +303,9 @@ def test_why_says_what_the_plates_have(desk):
     desk.wait("return document.getElementById('why').textContent.includes('Pixel')")
     text = desk.browser.find_element(By.ID, "why").text
     assert "trapped" in text and "Magenta" in text and "pixels away" in text
+    assert desk.browser.execute_script(
+        "const one = document.getElementById('why').getBoundingClientRect(), all = document.getElementById('panels')"
+        ".getBoundingClientRect(); return one.top >= all.top && one.bottom <= all.bottom + 1")
 
 
 def test_two_windows_lose_no_change(desk):
@@ -364,7 +388,11 @@ def test_the_second_picture_shows_an_earlier_version_and_other_settings(desk):
     desk.set("set-TrapWidth", 4)
     desk.wait("return desk.app.page.version === 2")
     desk.settle()
+    where = "const {lat, lng} = desk.view.map.getCenter(); return [lat, lng, desk.view.map.getZoom()]"
+    place = desk.browser.execute_script(where)
     desk.click("#compare")
+    desk.wait("return !!desk.other.page")
+    assert desk.browser.execute_script(where) == pytest.approx(place, abs=1) and place[2] == 0
     desk.set("compared", "version 1")
     desk.wait("return !!document.querySelector('#other .live-picture')")
     desk.settle()

@@ -38,7 +38,7 @@ export async function showCompared(app, view, other) {
   other.soft = view.soft;
   other.other = kind === 'version' ? { version: Number(name) }
     : kind === 'preset' ? { settings: app.page.presets.find((/** @type {any} */ one) => one.name === name).settings } : null;
-  other.open(kind === 'page' ? await get(`/api/pages/${name}`) : { ...app.page });
+  other.open(kind === 'page' ? await get(`/api/pages/${name}`) : { ...app.page }, view.map);
   if (kind !== 'page') other.shifts = view.shifts;
   await other.show(kind === 'before' ? 'before' : app.mode === 'before' ? 'after' : app.mode, app.shownInks);
   other.map.setView(view.map.getCenter(), view.map.getZoom(), { animate: false });

@@ -226,6 +226,9 @@ async function ask(x, y) {
     L.polyline(line, { color: '#c2005b', weight: 4, interactive: false }).addTo(markLayer);
   }
   showWhy(page, answer);
+  const box = /** @type {HTMLDetailsElement} */ (byId('why').closest('details'));
+  box.open = true;
+  box.scrollIntoView({ block: 'nearest' });
   app.page.asked = [x, y];
 }
 

@@ -178,6 +178,9 @@ function showRules(page, on) {
   byId('batch').replaceChildren(element('div', { className: 'row' }, [all, element('label', { htmlFor: zones.id }, [zones, ' zones too'])]));
 }
 
+/** The zones of which all settings are shown. @type {Set<number>} */
+const openZones = new Set();
+
 /** @param {any} settings */
 function settingsText(settings) {
   if (!settings.Enabled) return 'not trapped';
@@ -224,8 +227,11 @@ function showZones(app, on) {
     const parts = [name, element('div', { className: 'row' }, [tick('on', 'traps', enabled, (value) => change((one) => { one.settings.Enabled = value; })),
       tick('over', 'over images too', zone.overImages, (value) => change((one) => { one.overImages = value; }))])];
     if (enabled) {
-      parts.push(control(`zone-${k}-width`, SETTINGS[0], zone.settings.TrapWidth ?? page.settings.TrapWidth,
-        (value) => change((one) => { one.settings.TrapWidth = value; })));
+      const [width, ...others] = SETTINGS.map((setting, at) => control(`zone-${k}-${at ? setting[0] : 'width'}`, setting,
+        zone.settings[setting[0]] ?? page.settings[setting[0]], (value) => change((one) => { one.settings[setting[0]] = value; })));
+      const more = element('details', { open: openZones.has(k) }, [element('summary', { textContent: 'More settings' }), ...others]);
+      more.ontoggle = () => { if (more.open) openZones.add(k); else openZones.delete(k); };
+      parts.push(width, more);
     }
     if (app.chosenZone === k) parts.push(corners(page, zone, k, change));
     parts.push(element('div', { className: 'row' }, [choose, remove]));

@@ -47,8 +47,9 @@ export class PageView {
   /**
    * Shows a page; the place on it stays if it has the same size.
    * @param {any} page
+   * @param {any} [beside] the map that shows the same place
    */
-  open(page) {
+  open(page, beside = null) {
     const isSame = this.page && this.page.id === page.id;
     const keepsPlace = this.page && this.page.width === page.width && this.page.height === page.height;
     this.page = page;
@@ -63,7 +64,8 @@ export class PageView {
     this.tiles.getTileUrl = (/** @type {any} */ at) => this.address(at);
     this.tiles.on('tileloadstart', (/** @type {any} */ event) => this.fitTile(event));
     this.tiles.addTo(this.map);
-    if (!keepsPlace) this.fit();
+    if (beside) this.map.setView(beside.getCenter(), beside.getZoom(), { animate: false });
+    else if (!keepsPlace) this.fit();
   }
 
   fit() { this.map.fitBounds([[0, 0], [this.page.height, this.page.width]]); }
