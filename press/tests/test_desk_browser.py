@@ -403,7 +403,8 @@ def test_the_second_picture_shows_an_earlier_version_and_other_settings(desk):
     pixels = np.asarray(image.open(io.BytesIO(base64.b64decode(found))).convert("RGB"))
     assert pixels.shape == first.shape and np.array_equal(pixels, first)
     desk.browser.execute_script("desk.other.map.panBy([17, 9], {animate: false})")
-    desk.wait("return desk.view.map.getCenter().distanceTo(desk.other.map.getCenter()) < 1")
+    desk.wait("const one = desk.view.map.getCenter(), two = desk.other.map.getCenter();"
+              f"return Math.abs(one.lng - {place[1]} - 17) <= 1 && one.lng === two.lng && one.lat === two.lat")
 
 
 def test_a_finding_leads_to_its_place(desk):

@@ -41,6 +41,6 @@ export async function showCompared(app, view, other) {
   other.open(kind === 'page' ? await get(`/api/pages/${name}`) : { ...app.page }, view.map);
   if (kind !== 'page') other.shifts = view.shifts;
   await other.show(kind === 'before' ? 'before' : app.mode === 'before' ? 'after' : app.mode, app.shownInks);
-  other.map.setView(view.map.getCenter(), view.map.getZoom(), { animate: false });
+  other.moveTo(view.map);
   byId('comparedhint').hidden = !other.other || view.isNear();
 }

@@ -336,7 +336,7 @@ function follow(from, to) {
   from.map.on('move', () => {
     if (byId('other').hidden || !to.page || isFollowing) return;
     isFollowing = true;
-    to.map.setView(from.map.getCenter(), from.map.getZoom(), { animate: false });
+    to.moveTo(from.map);
     isFollowing = false;
     byId('comparedhint').hidden = !other.other || view.isNear();
   });

@@ -68,6 +68,17 @@ export class PageView {
     else if (!keepsPlace) this.fit();
   }
 
+  /**
+   * Shows the place that another map shows, to the pixel: setView cuts half pixels, which windows of odd sizes have.
+   * @param {any} map
+   */
+  moveTo(map) {
+    const zoom = map.getZoom();
+    if (zoom !== this.map.getZoom()) { this.map.setView(map.getCenter(), zoom, { animate: false }); return; }
+    const offset = map.project(map.getCenter(), zoom).subtract(this.map.project(this.map.getCenter(), zoom)).round();
+    if (offset.x || offset.y) this.map.panBy(offset, { animate: false });
+  }
+
   fit() { this.map.fitBounds([[0, 0], [this.page.height, this.page.width]]); }
 
   /**
