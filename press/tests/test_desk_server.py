@@ -637,6 +637,20 @@ def test_settings_are_applied_to_the_other_pages(tmp_path):
     assert files_of(folder / "page-002") == trapped_by_command(folder / "page-002", tmp_path / "again")
 
 
+def test_a_folder_of_press_all_is_one_job(tmp_path):
+    """Its pages are not jobs of their own, so that settings can be applied to all of them. One page's folder is a job
+    too."""
+    for number in (1, 2):
+        make_page(tmp_path / "out" / f"page-{number:03d}", number=number)
+    with open_client(tmp_path / "out") as client:
+        (job,) = client.get("/api/jobs").json()
+        assert [page["number"] for page in job["pages"]] == [1, 2]
+        assert all(client.get(f"/api/pages/{page['id']}").json()["siblings"] == 1 for page in job["pages"])
+    with open_client(tmp_path / "out" / "page-002") as client:
+        (job,) = client.get("/api/jobs").json()
+        assert len(job["pages"]) == 1
+
+
 # What is found, and what is fetched
 
 def test_findings_come_with_their_places(client, folder):

@@ -88,7 +88,10 @@ class Store:
                 "pages": with_waiting(sent, pages), "findings": list(sent.findings)}
 
     def _job_folders(self) -> list[Path]:
-        below = sorted(one for one in self.folder.iterdir() if one.is_dir() and not one.name.startswith("."))
+        """The jobs: the folder itself if it is one, and those below it, without its own pages."""
+        own = {path for _, path, _ in pages_of(self.folder)}
+        below = sorted(one for one in self.folder.iterdir()
+                       if one.is_dir() and not one.name.startswith(".") and one not in own)
         return [folder for folder in (self.folder, *below) if folder.name in self.queue.jobs or pages_of(folder)]
 
     def begin_upload(self, name: str, of: SetOf | None) -> Upload:
