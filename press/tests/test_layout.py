@@ -167,6 +167,16 @@ def test_a_page_with_a_thin_line(maxval: int, tmp_path: Path) -> None:
     assert not list(layout.findings(1, 600))
 
 
+def test_specks_have_zones_and_are_not_reported() -> None:
+    """A pixel that a stroke has at a corner gets a zone, and is no line that a higher resolution would help."""
+    plates, inks = plates_of()
+    for array in plates.arrays:
+        array[array.shape[0] // 2, 290] = array[42, 100]
+    layout = lay_out([], None, None, plates, inks, Settings(parameters=parameters("offset")))
+    assert layout.strokes and (layout.strokes.parts, layout.strokes.lines, layout.strokes.too_thin) == (1, 1, 0)
+    assert len({width for width, _ in layout.strokes.places}) == 2 and not list(layout.findings(1, 600))
+
+
 def test_strokes_that_are_too_thin_are_named() -> None:
     """With the resolution that would do."""
     plates, inks = plates_of()

@@ -18,9 +18,12 @@ from collections.abc import Iterator, Mapping, Sequence
 from dataclasses import dataclass, field
 from multiprocessing.process import BaseProcess
 
+from PIL import Image
+
 from . import farm_client, runs, tools
 from .command import LOG
 from .farm_client import DIGITS, SOCKET
+from .inks import Separation
 
 PIECE_BYTES = 1 << 16
 # How often it is looked whether there is memory for a page that waits for it, in seconds.
@@ -188,4 +191,14 @@ def slots(opened: runs.Opened, environment: Mapping[str, str], memory: int) -> I
 def serve(pages: Slots, opened: runs.Opened, parent: int) -> None:
     """Is the process that makes the pages of a file."""
     runs.OPEN_HERE.append(opened)
+    prepare_for_pages(opened)
     pages.serve(parent)
+
+
+def prepare_for_pages(opened: runs.Opened) -> None:
+    """Does once what each page would do: the library's patterns are compiled when an ink is looked up that no table
+    has, and Pillow imports its writers."""
+    if opened.book:
+        opened.book.ink(Separation(b"-", b"-", None, "-"))
+    Image.preinit()
+    Image.init()

@@ -6,7 +6,6 @@ that lie side by side are taken as one first. So edges at an image's border belo
 of one bit are line work and no images here, and so is an image of fewer than 64 samples.
 """
 from collections.abc import Sequence
-from dataclasses import dataclass
 
 from .rects import NOTHING, Polygon, Rect, around, rect_of
 from .source import PageInfo
@@ -16,14 +15,6 @@ TOUCH, MOST_RECTS = 0.05, 3000
 LEAST_SLICE, MOST_SLICES, MOST_CROSSINGS = 1.0, 200, 200_000
 Span = tuple[float, float]
 EVERYWHERE: list[Span] = [(float("-inf"), float("inf"))]
-
-
-@dataclass(frozen=True)
-class Places:
-    """Where no trap comes because of images, the largest place first, and the rectangles around the images."""
-
-    places: list[Rect]
-    bounds: list[Rect]
 
 
 def joined(rects: Sequence[Rect]) -> list[Rect]:
@@ -95,24 +86,31 @@ def sliced(shape: list[list[Polygon]], margin: float) -> list[Rect]:
     return rects
 
 
-def places_of(images: Sequence[Image], margin: float) -> tuple[list[Rect], list[Rect]]:
-    """The places of images, and the rectangles around the images as they are, both in the trace's own points."""
-    simple, shapes, bounds = [], [], []
+def extent_of(image: Image) -> tuple[Rect, bool]:
+    """The rectangle around an image, as far as its clips leave it if they are rectangles; and whether the image is that
+    rectangle."""
+    rects = [rect_of(image.corners)] + [rect_of(clip[0]) if len(clip) == 1 else None for clip in image.clips]
+    whole = around(image.corners)
+    if not all(rects):
+        return whole, False
+    for rect in rects[1:]:
+        whole = whole.common(rect or NOTHING)
+    return whole, True
+
+
+def places_of(images: Sequence[Image], margin: float) -> list[Rect]:
+    """The places of images in the trace's own points."""
+    simple, shapes = [], []
     for image in images:
-        rects = [rect_of(image.corners)] + [rect_of(clip[0]) if len(clip) == 1 else None for clip in image.clips]
-        whole = around(image.corners)
-        if all(rects):
-            for rect in rects[1:]:
-                whole = whole.common(rect or NOTHING)
-            if whole != NOTHING:
-                simple.append(whole)
-        else:
+        whole, is_all = extent_of(image)
+        if not is_all:
             shapes.append([[image.corners], *image.clips])
-        bounds.append(whole)
+        elif whole != NOTHING:
+            simple.append(whole)
     places = [rect.drawn_in(margin) for rect in joined(simple)]
     for shape in shapes:
         places += sliced(shape, margin)
-    return [place for place in places if place != NOTHING], [one for one in bounds if one != NOTHING]
+    return [place for place in places if place != NOTHING]
 
 
 def ordered_bounds(images: Sequence[Image]) -> list[tuple[int, Rect]]:
@@ -141,8 +139,12 @@ def moved_to_page(rects: Sequence[Rect], info: PageInfo, box: str) -> list[Rect]
     return [one for one in found if one != NOTHING]
 
 
-def image_places(images: Sequence[Image], info: PageInfo, box: str, margin: float) -> Places:
-    """The places of a page's images without traps, drawn in by a margin in points."""
-    places, bounds = places_of(images, margin)
-    largest = sorted(moved_to_page(places, info, box), key=lambda one: -one.area)
-    return Places(largest[:MOST_RECTS], moved_to_page(bounds, info, box))
+def image_places(images: Sequence[Image], info: PageInfo, box: str, margin: float) -> list[Rect]:
+    """Where no trap comes because of a page's images, drawn in by a margin in points, the largest place first."""
+    return sorted(moved_to_page(places_of(images, margin), info, box), key=lambda one: -one.area)[:MOST_RECTS]
+
+
+def image_bounds(images: Sequence[Image], info: PageInfo, box: str) -> list[Rect]:
+    """The rectangles around a page's images."""
+    wholes = [whole for whole, _ in map(extent_of, images)]
+    return moved_to_page([whole for whole in wholes if whole != NOTHING], info, box)

@@ -28,7 +28,7 @@ from .rects import NOTHING, Rect, without
 from .regions import box_on_page, fewer
 from .settings import Settings
 from .source import BOX_NAMES, PageInfo
-from .strokes import SHARE, Box, Part, find_strokes
+from .strokes import SHARE, SPECK, Box, Part, find_strokes
 from .strokes import Ink as StrokeInk
 from .strokes import Rule
 from .thin import Line, boxes_by_width, narrow_lines, own_share
@@ -186,7 +186,7 @@ def image_places(own: Sequence[Statement], info: PageInfo | None, trace: Trace |
     if info is None or trace is None or settings.trap_images or not trace.images:
         return [], []
     margin = reach(read_all(own), settings.dpi)
-    places = images.image_places(trace.images, info, settings.box, margin).places
+    places = images.image_places(trace.images, info, settings.box, margin)
     if not settings.over_images:
         return places, []
     over = above(trace.marks, images.ordered_bounds(trace.images), margin)
@@ -284,23 +284,24 @@ def planes_of(plates: Plates, inks: Sequence[Ink]) -> tuple[list[Any], list[Stro
 
 def strokes_of(plates: Plates, inks: Sequence[Ink], rule: Parameters, skip: Sequence[Box],
                find: FindStrokes = find_strokes) -> tuple[list[Line], int]:
-    """The lines of thin strokes whose traps have to be narrower, and how many thin parts there are."""
+    """The lines of thin strokes whose traps have to be narrower, and how many thin strokes there are."""
     planes, stroke_inks = planes_of(plates, inks)
     if len(planes) < 2 or not rule.enabled:
         return [], 0
     parts = find(planes, stroke_inks, stroke_rule(rule), plates.resolution, skip)
-    return narrow_lines(parts, stroke_rule(rule), plates.resolution), len(parts)
+    return narrow_lines(parts, stroke_rule(rule), plates.resolution), sum(part.area >= SPECK for part in parts)
 
 
 def report_of(lines: Sequence[Line], parts: int, composed: Composed, plates: Plates, inks: Sequence[Ink],
               rule: Parameters, thin: dict[float, list[Rect]]) -> Strokes:
-    """What was found of thin strokes."""
+    """What was found of thin strokes, but for specks."""
     planes, stroke_inks = planes_of(plates, inks)
+    lines = [line for line in lines if not line.is_specks]
     pixels = rule.trap_width / SCALE * plates.resolution / 72
     before = [pixels / 2 if line.slides else pixels for line in lines]
     own_before, own_after = (own_share(planes, stroke_inks, stroke_rule(rule), lines, reaches)
                              for reaches in (before, [line.reach for line in lines]))
-    least = min(line.stroke for line in lines)
+    least = min((line.stroke for line in lines), default=0.0)
     places = tuple((width, rect) for width, rects in thin.items() for rect in rects)
     return Strokes(parts, len(lines), composed.thin_zones, own_before, own_after,
                    sum(line.stroke < SHARE for line in lines), least * 72 / plates.resolution, places)

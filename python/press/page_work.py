@@ -4,7 +4,7 @@ import contextlib
 import os
 import shutil
 import time
-from collections.abc import Iterator, Sequence
+from collections.abc import Iterable, Iterator, Sequence
 from dataclasses import dataclass, field
 
 from . import engine, identity, job_record, look, page as pages_of_source, preflight, proof, tiff, unchanged
@@ -16,6 +16,7 @@ from .findings import Finding, refusal_for
 from .folder import TIFF, TRAPPED, WARNINGS, JobFolder, PageFolder, read_table
 from .inks import InkBook
 from .keepaway import BEGUN
+from .layout import Layout
 from .names import PROCESS, clean
 from .recorded import options_from, without_run_only
 from .settings import Settings
@@ -90,16 +91,21 @@ class PageWork:
             if need > free:
                 raise PressError(Status.OUTPUT, pages_of_source.room_line(need, free), self.source.place(self.number))
 
-    def look(self, scratch: str) -> pages_of_source.Page:
-        """Renders the page, and checks it."""
+    def look(self, scratch: str) -> tuple[pages_of_source.Page, Layout]:
+        """Renders the page, lays it out, and checks it."""
         self.refuse()
         self.need_room()
         page = pages_of_source.prepare(self.source, self.number, self.settings, self.book, scratch, self.crew)
-        for one in preflight.check_page(page, self.settings, self.book, self.job.path).findings:
+        layout = pages_of_source.layout_of(page, self.settings)
+        self.find(preflight.check_page(page, self.settings, self.book, self.job.path, layout).findings)
+        self.refuse()
+        return page, layout
+
+    def find(self, findings: Iterable[Finding]) -> None:
+        """Keeps findings, and hands them to the observer."""
+        for one in findings:
             self.found.append(one)
             self.observer(FindingMade(one))
-        self.refuse()
-        return page
 
     def make(self, folder: str) -> engine.Report | None:
         """Goes the whole way into a folder: plates, traps, TIFF files, pictures and proof; None if the page has not
@@ -107,16 +113,13 @@ class PageWork:
         scratch = os.path.join(os.path.dirname(folder), "scratch")
         with self.step("a look", "press-preflight"):
             os.mkdir(scratch)
-            page = self.look(scratch)
+            page, layout = self.look(scratch)
         with self.step("plates", "press-plates"):
             os.mkdir(folder)
-            layout = pages_of_source.layout_of(page, self.settings)
             made = pages_of_source.write_page(page, self.settings, folder, layout)
             part = self.part(pages_of_source.record_of(page, self.settings, made))
             job_record.write_record(folder, part)
-            for one in layout.findings(self.number, self.settings.dpi):
-                self.found.append(one)
-                self.observer(FindingMade(one))
+            self.find(layout.findings(self.number, self.settings.dpi))
             self.write_warnings(made)
             # Ghostscript's planes are not needed any more.
             del page

@@ -31,6 +31,8 @@ SAME_WIDTH = 0.0002
 LIGHTS = ((0, 166, 232), (232, 20, 134), (255, 238, 20), (36, 32, 34))
 BAND_ROWS, MOST_POINTS = 256, 2000
 MOST_WIDTH, MOST_HEIGHT, SEARCH_STEP = 160, 120, 8
+# The light gray of each sum of red, green and blue.
+PALE = (205 + numpy.arange(3 * 255 + 1, dtype="f4") / 3 * 50 / 255).astype("u1")
 
 
 def light_of(look: Look) -> Light:
@@ -138,7 +140,11 @@ class Painter:
         new = [small if numpy.array_equal(one[part], other[part]) else mean_of(other[part], times)
                for small, one, other in zip(old, self.before, self.after)]
         before = self.laid_over(old)
-        after = before if all(one is other for one, other in zip(old, new)) else self.laid_over(new)
+        changed = numpy.any([one != other for one, other in zip(old, new) if one is not other] or [[False]], axis=0)
+        after = before
+        if changed.any():
+            after = before.copy()
+            after[changed] = self.laid_over([small[changed][None] for small in new])[0]
         release(*self.before, *self.after)
         return before, after
 
@@ -227,8 +233,9 @@ class Painter:
 
 def pale(picture: Array) -> Array:
     """A picture in light gray."""
-    gray = picture.mean(axis=2, dtype="f4")
-    return numpy.repeat((205 + gray * 50 / 255).astype("u1")[:, :, None], 3, axis=2)
+    out = numpy.empty_like(picture)
+    out[:] = PALE[picture[:, :, 0].astype("u2") + picture[:, :, 1] + picture[:, :, 2]][:, :, None]
+    return out
 
 
 # Widths

@@ -19,7 +19,7 @@ from .findings import FAULT, NOTE, WARNING, Finding
 from .folder import PageSource
 from .inkedits import twins
 from .inks import Ink, InkBook, Separation, folded, open_book, unsure_lines
-from .layout import box_line, layer_lines
+from .layout import Layout, box_line, layer_lines
 from .names import MOST_PLATES, PROCESS, job_names, readable
 from .page import Page, layout_of, lost_edits, option_edits, prepare, room_line
 from .pairs import pairs_file, read_pairs
@@ -301,9 +301,11 @@ def check_small(source: Source, number: int, settings: Settings, book: InkBook, 
     return check_page(page, settings, book)
 
 
-def check_page(page: Page, settings: Settings, book: InkBook, place: str | None = None) -> PageReport:
+def check_page(page: Page, settings: Settings, book: InkBook, place: str | None = None,
+               layout: Layout | None = None) -> PageReport:
     """The findings of a page that is rendered, at whatever resolution, and what it takes at the settings' one.
-    `place` is where it will be, or None. Faults and warnings do not stop the checks that follow."""
+    `place` is where it will be, or None, and `layout` its layout, if that is known. Faults and warnings do not stop
+    the checks that follow."""
     found = list(ghostscript_findings(page))
     if page.info is None:
         return PageReport(tuple(found))
@@ -314,7 +316,7 @@ def check_page(page: Page, settings: Settings, book: InkBook, place: str | None 
     found += [size] if size else []
     found += room_findings(needs, place)
     found += image_findings(page, page.info, settings)
-    found += layout_findings(page, page.info, settings)
+    found += layout_findings(page, page.info, settings, layout)
     found += content_findings(page, page.info, settings)
     return PageReport(tuple(dict.fromkeys(found)), needs)
 
@@ -450,7 +452,7 @@ def image_findings(page: Page, info: PageInfo, settings: Settings) -> Iterator[F
     """How many images a page has, and how much of it the largest covers."""
     if page.untraced:
         yield Finding("images", WARNING, page.number, page.untraced)
-    bounds = images.image_places(page.trace.images, info, settings.box, 0).bounds if page.trace else []
+    bounds = images.image_bounds(page.trace.images, info, settings.box) if page.trace else []
     if bounds:
         width, height = info.size(settings.box)
         largest = max(one.area for one in bounds) / width / height
@@ -477,10 +479,10 @@ def content_findings(page: Page, info: PageInfo, settings: Settings) -> Iterator
         yield from content.reversed_findings(page.trace, plates, inks, info, settings, number)
 
 
-def layout_findings(page: Page, info: PageInfo, settings: Settings) -> Iterator[Finding]:
+def layout_findings(page: Page, info: PageInfo, settings: Settings, layout: Layout | None) -> Iterator[Finding]:
     """How much of a page is not trapped, and why; boxes and layers of the options that it does not have."""
     lines = [box_line(info, settings), *(layer_lines(page.trace, settings) if page.trace else ())]
     yield from (Finding("trap-within", WARNING, page.number, line) for line in lines if line)
-    line = layout_of(page, settings.but(thin_zones=False)).untrapped_line()
+    line = (layout or layout_of(page, settings.but(thin_zones=False))).untrapped_line()
     if line:
         yield Finding("not-trapped", NOTE, page.number, line)

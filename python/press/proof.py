@@ -164,16 +164,17 @@ class Sheet:
         before, after = (numpy.concatenate(parts) for parts in zip(*(one.small for one in self.seen)))
         return before, after
 
-    def traps(self, before: Array) -> Array:
-        """The traps on the small picture."""
-        traps = pale(before)
+    def traps(self, ground: Array) -> Array:
+        """The traps on the small picture, which is pale."""
+        traps = ground.copy()
         for light, marks in zip(self.painter.lights, self.changes.marks):
             traps[thickened(marks)[:traps.shape[0], :traps.shape[1]]] = light
         return traps
 
-    def map(self, before: Array) -> Array:
-        """The gaps that misregistration opens, on the small picture: those that are closed, and those that are left."""
-        bare = pale(before)
+    def map(self, ground: Array) -> Array:
+        """The gaps that misregistration opens, on the small picture, which is pale: those that are closed, and those
+        that are left."""
+        bare = ground.copy()
         bare[self.small_marks([one.closed for one in self.seen])] = BLUE
         bare[self.small_marks([one.left for one in self.seen])] = RED
         return bare
@@ -215,6 +216,7 @@ def page_text(page: PageFolder, crew: Crew = ALONE) -> str:
     """The part of a sheet that is a page's."""
     sheet, report = Sheet(page, crew), read_report(page.path)
     before, after = sheet.small()
+    ground = pale(before)
     add_to_json(sheet)
     head = (f"<h2>{escaped(readable(page.source.pdf))}, page {page.source.page}</h2><p>{page.head.width} by "
             f"{page.head.height} samples at {page.source.resolution} pixels per inch; {report.changed:,} samples "
@@ -226,8 +228,8 @@ def page_text(page: PageFolder, crew: Crew = ALONE) -> str:
     inks = table(["ink", "in the job", "density", "kind", "plate", "samples changed", "ink added on"],
                  ink_rows(sheet, report))
     pictures: list[Callable[[], str]] = [
-        lambda: image(sheet.traps(before), "the traps"), lambda: map_text(sheet, before),
-        lambda: thin_text(sheet, before), lambda: slider_text(before, after), lambda: register_text(sheet)]
+        lambda: image(sheet.traps(ground), "the traps"), lambda: map_text(sheet, ground),
+        lambda: thin_text(sheet, ground), lambda: slider_text(before, after), lambda: register_text(sheet)]
     pictures += [functools.partial(plate_text, sheet, at) for at in range(len(page.inks))]
     traps, bare, thin, slider, register, *plates = crew.each(pictures)
     return "\n".join([
@@ -289,8 +291,8 @@ def canvas(part: Part) -> str:
     return f'<canvas width="{part[2]}" height="{part[3]}"></canvas>'
 
 
-def map_text(sheet: Sheet, picture: Array) -> str:
-    """The map of the gaps that misregistration still opens, on the small picture before trapping."""
+def map_text(sheet: Sheet, ground: Array) -> str:
+    """The map of the gaps that misregistration still opens, on the small picture before trapping, which is pale."""
     before, after = sheet.bared_before, sheet.bared_after
     radius = f"{sheet.radius} sample" + ("" if sheet.radius == 1 else "s")
     # Two plates that are off each its own way part by twice as much.
@@ -298,7 +300,7 @@ def map_text(sheet: Sheet, picture: Array) -> str:
            if 0 < sheet.width < 2 * sheet.radius else "")
     return (f"<h3>What misregister still bares</h3><p>{swatch(RED)}a light seam can open here, each plate being off by "
             f"{radius} in both directions: {after:,} samples after trapping, {before:,} before. {swatch(BLUE)}closed "
-            f'by a trap.{far}</p>{image(sheet.map(picture), "a map of what misregister bares")}')
+            f'by a trap.{far}</p>{image(sheet.map(ground), "a map of what misregister bares")}')
 
 
 def plate_text(sheet: Sheet, at: int) -> str:
@@ -308,12 +310,12 @@ def plate_text(sheet: Sheet, at: int) -> str:
             f"{escaped(readable(sheet.page.inks[at].colorant))}</figcaption></figure>")
 
 
-def thin_text(sheet: Sheet, picture: Array) -> str:
+def thin_text(sheet: Sheet, ground: Array) -> str:
     """Where thin strokes have zones of their own, and what these leave of their colour."""
     thin = read_layout(sheet.page).get("thin")
     if not thin or not thin["zones"]:
         return ""
-    shown, scale = pale(picture), sheet.page.source.resolution / 72 / sheet.times
+    shown, scale = ground.copy(), sheet.page.source.resolution / 72 / sheet.times
     height = sheet.page.head.height / sheet.times
     for _, left, lower, right, upper in thin["places"]:
         rows = max(0, int(height - upper * scale)), min(shown.shape[0] - 1, int(height - lower * scale))

@@ -8,22 +8,25 @@ from collections.abc import Iterable, Sequence
 import numpy
 from PIL import Image
 
+from . import png
 from .picture import Light
 from .plates import Array
 
-JPEG_QUALITY, PNG_LEVEL = 88, 6
+JPEG_QUALITY = 88
 escaped = html.escape
 
 
 def data_uri(picture: Array, kind: str = "PNG") -> str:
     """A picture as the address of itself."""
+    data = jpeg(picture) if kind == "JPEG" else png.encoded(picture)
+    return f"data:image/{kind.lower()};base64,{base64.b64encode(data).decode()}"
+
+
+def jpeg(picture: Array) -> bytes:
+    """A picture as a JPEG file."""
     out = io.BytesIO()
-    drawn = Image.fromarray(numpy.ascontiguousarray(picture))
-    if kind == "JPEG":
-        drawn.save(out, format=kind, quality=JPEG_QUALITY)
-    else:
-        drawn.save(out, format=kind, compress_level=PNG_LEVEL)
-    return f"data:image/{kind.lower()};base64,{base64.b64encode(out.getvalue()).decode()}"
+    Image.fromarray(numpy.ascontiguousarray(picture)).save(out, format="JPEG", quality=JPEG_QUALITY)
+    return out.getvalue()
 
 
 def image(picture: Array, text: str) -> str:

@@ -24,7 +24,7 @@ from . import bits
 from .bits import Words
 from .canvas import Canvas, canvases_of
 from .stroke_runs import Plane
-from .strokes import SHARE, SLANT, Box, Ink, Part, Rule, edges_of, steps_of
+from .strokes import SHARE, SLANT, SPECK, Box, Ink, Part, Rule, edges_of, steps_of
 
 # A third may be so many pixels short of a reach.
 SLACK = 0.05
@@ -53,6 +53,11 @@ class Line:
     slides: bool
     reach: float
     width: float
+
+    @property
+    def is_specks(self) -> bool:
+        """Whether it is no stroke, but specks that are pieces of one."""
+        return all(part.area < SPECK for part in self.parts)
 
 
 def stroke_of(parts: Iterable[Part]) -> float:

@@ -5,8 +5,6 @@ Colours are packed as the browser's canvas wants them: red, green, blue and opac
 """
 from __future__ import annotations
 
-import struct
-import zlib
 from collections.abc import Sequence
 from typing import Any
 
@@ -17,6 +15,7 @@ from PIL import Image, ImageCms
 from press.inks import Ink
 from press.names import PROCESS
 from press.picture import need_profile
+from press.png import encoded
 
 Tints = NDArray[np.uint8]
 Pixels = NDArray[np.uint32]
@@ -152,16 +151,7 @@ def paint_total(planes: Sequence[Tints]) -> Pixels:
 
 
 def png(pixels: Pixels) -> bytes:
-    """A PNG without filters, which flat art does not need; a photograph is not compressed, since that takes longest."""
-    height, width = pixels.shape
+    """A PNG file; a photograph is not compressed, since that takes longest."""
     is_flat = np.count_nonzero(pixels[:, 1:] != pixels[:, :-1]) * 3 <= pixels.size
-    rows = np.zeros((height, 1 + 3 * width), np.uint8)
-    channels = np.ascontiguousarray(pixels).view(np.uint8).reshape(height, width, 4)
-    rows[:, 1:] = channels[:, :, :3].reshape(height, 3 * width)
-    header = struct.pack(">IIBBBBB", width, height, 8, 2, 0, 0, 0)
-    return b"".join([b"\x89PNG\r\n\x1a\n", _chunk(b"IHDR", header),
-                     _chunk(b"IDAT", zlib.compress(rows.tobytes(), 1 if is_flat else 0)), _chunk(b"IEND", b"")])
-
-
-def _chunk(kind: bytes, data: bytes) -> bytes:
-    return struct.pack(">I", len(data)) + kind + data + struct.pack(">I", zlib.crc32(kind + data))
+    channels = np.ascontiguousarray(pixels).view(np.uint8).reshape(*pixels.shape, 4)
+    return encoded(channels[:, :, :3], 1 if is_flat else 0)
