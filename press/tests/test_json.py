@@ -51,18 +51,22 @@ def test_events_are_documented() -> None:
 @pytest.mark.usefixtures("built")
 def test_objects_are_documented(room: Room) -> None:
     """The object of preflight, and the report of a page, have the keys of the document and no other."""
-    pdf(str(room / "job.pdf"), [page([], "1 0 0 0 k 10 10 40 28 re f 0 1 0 0 k 50 10 40 28 re f")])
+    pdf(str(room / "job.pdf"), [page([], "0 1 1 0 k 10 10 40 28 re f 1 0 0 0 k 50 10 40 28 re f 1 .6 0 .2 k 14 20 30 .5 re f")])
     found = json.loads(room.run("preflight", "--json", "--dpi", "300", "job.pdf").out)
     rows = rows_of("Preflight")
     documented = {word for row in rows.values() for word in row}
     assert {*found} == {*rows} and keys_of(found) <= documented, found
-    room.goes("all", "--quiet", "--dpi", "300", "--check", "1", "job.pdf", "out")
+    made = room.goes("all", "--json", "--dpi", "300", "--width", "0.2mm", "--check", "1", "job.pdf", "out")
+    events = [json.loads(line) for line in made.out.splitlines()]
     report = json.loads((room / "out/page-001/trapped/report.json").read_text(encoding="utf-8"))
     rows = rows_of("The report of a page")
     assert {*report} == {*rows}, report
     for key in ("check", "misregister", "layout"):
         assert {*report[key]} <= rows[key], report[key]
     assert {*report["inks"][0]} <= rows["inks"], report["inks"]
+    thin, done = report["layout"]["thin"], next(one for one in events if one["event"] == "page-done")
+    assert {*thin} <= rows["layout"] and thin["parts"] == 1 and thin["own_before"] < thin["own_after"], thin
+    assert done["thin"] == {name: thin[name] for name in ("parts", "lines", "zones", "own_before", "own_after")}, done
 
 
 def test_findings_of_a_farm(capsys: pytest.CaptureFixture[str]) -> None:

@@ -1,6 +1,6 @@
 # SPDX-License-Identifier: Apache-2.0
 """What happens in a run, as its observer receives it. Pages count from 1, seconds are wall time."""
-from collections.abc import Callable
+from collections.abc import Callable, Mapping
 from dataclasses import dataclass
 
 from .errors import Status
@@ -57,8 +57,8 @@ class Warned(Event):
 
 @dataclass(frozen=True)
 class PageDone(Event):
-    """A page is in OUT: how many plates it has, how many samples changed, the bytes of disk that it takes, and whether
-    it has what an earlier run made, since its plates are the same."""
+    """A page is in OUT: how many plates it has, how many samples changed, the bytes of disk that it takes, whether it
+    has what an earlier run made, since its plates are the same, and what is known of its thin strokes, if it has any."""
 
     page: int
     plates: int
@@ -66,6 +66,7 @@ class PageDone(Event):
     seconds: float
     disk: int
     kept: bool = False
+    thin: Mapping[str, float] | None = None
 
 
 @dataclass(frozen=True)

@@ -140,10 +140,16 @@ class PageFolder:
 
 def read_layout(page: PageFolder) -> dict[str, Any]:
     """What the zones of a page's job are made of; nothing for a page of an earlier version."""
+    return layout_in(page.path)
+
+
+def layout_in(folder: str) -> dict[str, Any]:
+    """The same of the page in a folder, which need not have its plates any more."""
+    path = os.path.join(folder, ZONES)
     try:
-        found = json.loads(read_text(page.file(ZONES)) or "{}")
+        found = json.loads(read_text(path) or "{}")
     except ValueError as fault:
-        raise PressError(Status.INPUT, "no layout of a page", page.file(ZONES)) from fault
+        raise PressError(Status.INPUT, "no layout of a page", path) from fault
     return found if isinstance(found, dict) else {}
 
 

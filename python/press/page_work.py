@@ -13,7 +13,7 @@ from .errors import PressError, Status, reason
 from .events import FindingMade, Observer, PageDone, PageFailed, StepDone, StepStarted, Warned
 from .files import disk_use, folder_beside, free_room, is_full
 from .findings import Finding, refusal_for
-from .folder import TIFF, TRAPPED, WARNINGS, JobFolder, PageFolder, read_table
+from .folder import TIFF, TRAPPED, WARNINGS, JobFolder, PageFolder, layout_in, read_table
 from .inks import InkBook
 from .keepaway import BEGUN
 from .layout import Layout
@@ -21,6 +21,8 @@ from .names import PROCESS, clean
 from .recorded import options_from, without_run_only
 from .settings import Settings
 from .source import Source
+
+OF_STROKES = ("parts", "lines", "zones", "own_before", "own_after")
 
 
 class StepFailed(Exception):
@@ -219,7 +221,13 @@ class PageWork:
                 os.rename(folder, final)
         told = report or engine.read_report(final)
         return PageDone(self.number, len(read_table(final)[1]), told.changed, time.monotonic() - start, disk_use(final),
-                        kept=report is None)
+                        report is None, thin_strokes(final))
+
+
+def thin_strokes(folder: str) -> dict[str, float] | None:
+    """What the layout of a page says of its thin strokes, without their places; None if it has none."""
+    thin = layout_in(folder).get("thin")
+    return {name: thin[name] for name in OF_STROKES} if thin else None
 
 
 def drop_plates(folder: str) -> None:
