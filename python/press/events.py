@@ -57,8 +57,8 @@ class Warned(Event):
 
 @dataclass(frozen=True)
 class PageDone(Event):
-    """A page is in OUT: how many plates it has, how many samples changed, the bytes of disk that it takes, whether it
-    has what an earlier run made, since its plates are the same, and what is known of its thin strokes, if it has any."""
+    """A page is in OUT: how many plates it has, how many samples changed, the bytes of disk that it takes, whether
+    it has what an earlier run made, since its plates are the same, and what is known of its thin strokes, if any."""
 
     page: int
     plates: int
