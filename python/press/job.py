@@ -16,9 +16,12 @@ from .settings import USUAL_WIDTH
 
 WORD = re.compile(rb"%[^\r\n\f]*|\((?:[^()\\]|\\.)*\)|<<|>>|<[0-9A-Fa-f\s]*>|\[|\]|/[^\s()<>\[\]{}/%\0]*"
                   rb"|[^\s()<>\[\]{}/%\0]+", re.DOTALL)
-LIMITS_BY_COLORANT = "ColorantZoneDetails"
-DEVICE = ("HWResolution", "Trapping", "TrappingDetails")
-DETAILS, INK, LIMITS = ("Type", "ColorantDetails"), ("NeutralDensity", "ColorantType"), ("StepLimit",)
+# The keys of dictionaries that the engine knows, and those of the dictionaries in them; ANY stands for a colorant's.
+Keys = dict[str, "Keys"]
+ANY = "*"
+DEVICE: Keys = {"HWResolution": {}, "Trapping": {},
+                "TrappingDetails": {"Type": {}, "ColorantDetails": {ANY: {"NeutralDensity": {}, "ColorantType": {}}}}}
+LIMITS: Keys = {"ColorantZoneDetails": {ANY: {"StepLimit": {}}}}
 # Entries of PostScript's trapping that other trappers honour, and this one passes over.
 OF_OTHERS = ("HalftoneName", "ImageInternalTrapping", "ImageResolution", "ImageToObjectTrapping", "ImageTrapPlacement",
              "ImagemaskTrapping", "TrapSetName", "TrappingOrder")
@@ -138,15 +141,17 @@ class Reading:
         """The zones that it makes, or the one of the whole page where it makes none."""
         return self.made or [self.last]
 
-    def judge_keys(self, value: Node, known: Sequence[str], place: str) -> None:
-        """Notes the keys of a dictionary that are not known."""
-        for key, at, _ in pairs_of(value):
-            if key not in known:
-                self.strangers.append(Stranger(at, key, known, place))
+    def judge(self, value: Node, known: Keys, place: str) -> None:
+        """Notes the keys of a dictionary, and of those in it, that are not known."""
+        for key, at, body in pairs_of(value):
+            if key in known or ANY in known:
+                self.judge(body, known.get(key) or known.get(ANY) or {}, key if key in known else place)
+            elif known:
+                self.strangers.append(Stranger(at, key, list(known), place))
 
     def parameters(self, value: Node) -> None:
         """What a dictionary before settrapparams makes of the parameters that hold."""
-        self.judge_keys(value, (*tables.parameters(), LIMITS_BY_COLORANT), "settrapparams")
+        self.judge(value, {**{key: {} for key in tables.parameters()}, **LIMITS}, "settrapparams")
         names = {"TrapWidth": "width", "BlackWidth": "black", "SlidingTrapLimit": "slide"}
         for key, _, body in pairs_of(value):
             if key in names and isinstance(body, Token):
@@ -156,19 +161,6 @@ class Reading:
                     pass
             elif key == "Enabled" and isinstance(body, Token):
                 self.last = replace(self.last, enabled=body.text != "false")
-            elif key == LIMITS_BY_COLORANT:
-                for _, _, limits in pairs_of(body):
-                    self.judge_keys(limits, LIMITS, LIMITS_BY_COLORANT)
-
-    def device(self, value: Node) -> None:
-        """What a dictionary before setpagedevice names."""
-        self.judge_keys(value, DEVICE, "setpagedevice")
-        for key, _, body in pairs_of(value):
-            if key == "TrappingDetails":
-                self.judge_keys(body, DETAILS, "TrappingDetails")
-                for name, _, inks in pairs_of(body):
-                    for _, _, ink in pairs_of(inks) if name == "ColorantDetails" else []:
-                        self.judge_keys(ink, INK, "ColorantDetails")
 
 
 def words_of(text: bytes) -> Iterator[Token]:
@@ -223,7 +215,7 @@ def read(text: bytes) -> Reading:
         if value.text == "settrapparams" and operands:
             reading.parameters(operands[-1])
         elif value.text == "setpagedevice" and operands:
-            reading.device(operands[-1])
+            reading.judge(operands[-1], DEVICE, "setpagedevice")
         elif value.text == "settrapzone":
             reading.made.append(reading.last)
         operands = []

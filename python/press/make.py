@@ -2,7 +2,7 @@
 """A page written to a folder of its own: from a PDF, or from the separations of another RIP."""
 import os
 import shutil
-from collections.abc import Iterable, Iterator, Sequence
+from collections.abc import Iterable, Sequence
 from dataclasses import dataclass
 
 from . import precedence, preflight, tiff, tools
@@ -11,7 +11,7 @@ from .events import FindingMade, Observer, RunStarted, silent
 from .files import folder_beside, put_folder
 from .findings import NOTE, WARNING, Finding, refusal_for
 from .folder import TABLE, PageFolder, PageSource
-from .inks import Ink, InkBook, Separation, open_book, unsure_lines
+from .inks import InkBook, Separation, open_book
 from .job_record import input_file, part_of, write_record
 from .layout import lay_out
 from .names import MOST_PLATES, PROCESS, job_names
@@ -43,13 +43,6 @@ def report(path: str, findings: Iterable[Finding], observer: Observer) -> None:
         observer(FindingMade(one))
 
 
-def findings_of_inks(inks: Sequence[Ink], book: InkBook, page: int | None) -> Iterator[Finding]:
-    """What has to be said of a page's inks."""
-    for ink in inks:
-        yield from (Finding("overridden", NOTE, page, line) for line in book.lost_lines(ink, inks))
-        yield from (Finding(kind, level, page, text) for kind, level, text in unsure_lines(ink))
-
-
 def make_page(path: str, folder: str, number: int = 1, settings: Settings = Settings(), force: bool = False,
               observer: Observer = silent) -> PageFolder:
     """Makes a page of a file, counted from 1, into a folder that is new or empty: its plates, its job and its
@@ -73,7 +66,8 @@ def make_page(path: str, folder: str, number: int = 1, settings: Settings = Sett
         write_record(made, part_of(file, number, options, done))
         if page.untraced:
             report(path, [Finding("images", WARNING, number, page.untraced)], observer)
-        report(path, findings_of_inks(page.inks, book, number), observer)
+        for ink in page.inks:
+            report(path, preflight.figure_findings(ink, page.inks, book, number), observer)
         report(path, layout.findings(number, settings.dpi), observer)
         shutil.rmtree(scratch)
         put_folder(made, folder)
@@ -137,7 +131,7 @@ def make_of_tiffs(given: TiffPlates, folder: str, settings: Settings = Settings(
         plates = read_plates({ink.name: os.path.join(made, ink.name + ".pgm") for ink in inks}, settings.dpi)
         layout = lay_out(own, None, None, plates, inks, settings)
         write_folder(made, PageSource(given.title, 1, settings.dpi), inks, layout)
-        found = [*findings_of_inks(inks, book, None),
+        found = [*(one for ink in inks for one in preflight.figure_findings(ink, inks, book, None)),
                  *(Finding("inks-line", WARNING, None, line) for line in book.strangers()),
                  *(Finding("overridden", NOTE, None, line) for line in precedence.lost_lines(settings, own))]
         found += layout.findings(None, settings.dpi)

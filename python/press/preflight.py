@@ -352,15 +352,19 @@ def ink_findings(page: Page, book: InkBook) -> Iterator[Finding]:
     yield from spelling_findings(page)
     yield from twin_findings(page)
     for ink in page.inks:
-        yield from (Finding("overridden", NOTE, page.number, line) for line in book.lost_lines(ink, page.inks))
-        for kind, level, line in unsure_lines(ink):
-            yield Finding(kind, level, page.number, line)
+        yield from figure_findings(ink, page.inks, book, page.number)
         if ink in inked and book.is_technical(ink):
             others = [other.name for other in inked if other is not ink]
             count, (column, row) = knocked_out(page.rendering.plates, ink.name, others)
             if count >= KNOCK_OUT_SAMPLES:
                 yield replace(knock_out_finding(ink, page.number),
                               place=content.pixel_place(page.rendering.plates, column, row))
+
+
+def figure_findings(ink: Ink, inks: Sequence[Ink], book: InkBook, page: int | None) -> Iterator[Finding]:
+    """Figures of an ink that give way to others, and those that are not known for sure."""
+    yield from (Finding("overridden", NOTE, page, line) for line in book.lost_lines(ink, inks))
+    yield from (Finding(kind, level, page, line) for kind, level, line in unsure_lines(ink))
 
 
 def spelling_findings(page: Page) -> Iterator[Finding]:
