@@ -19,7 +19,7 @@ from .inks import Ink
 from .job_language import SCALE, Job, JobInk, JobSyntaxError, Parameters, read_job
 from .job_record import PAGES, RECORD, changing_record, page_of, read_record
 from .names import readable
-from .plates import LONGEST_SIDE, MOST_SAMPLES, Array
+from .plates import LONGEST_SIDE, MOST_SAMPLES, Array, Plates
 from .programs import Started, most_dpi, run_on
 from .settings import KEEPAWAY, MOST_KEEPAWAY, Settings, Value, need_keepaway_reach
 
@@ -129,21 +129,35 @@ def blacks_and_others(page: PageFolder, job: Job) -> tuple[list[Ink], list[Ink]]
 def inks_under_black(page: PageFolder, blacks: Sequence[Ink], others: Sequence[Ink]) -> list[Ink]:
     """The inks with some ink on pixels that black covers; none unless some pixel is a rich black."""
     plates, maxval = page.plates(), page.head.maxval
-    most = maxval - max(1, -(-BLACK_LIMIT * maxval // SCALE))
-    is_rich, found = False, set()
+    if not has_rich_black(plates, blacks, others):
+        return []
+    found: set[str] = set()
     for first, end, top, bottom in plates.bands(BAND_ROWS, 1):
         parts = [plates[ink.name][top:bottom] for ink in blacks]
-        black = any_of(part <= most for part in parts)
+        black = any_of(part <= least_black(maxval) for part in parts)
         if not black.any():
             continue
         own = slice(first - top, end - top)
         cover = black | grown(black) & any_of(part < maxval for part in parts)
-        for ink in others:
-            if not is_rich or ink.name not in found:
-                has_ink = plates[ink.name][top:bottom] < maxval
-                is_rich = is_rich or bool((has_ink & black)[own].any())
-                found |= {ink.name} if (has_ink & cover)[own].any() else set()
-    return [ink for ink in others if ink.name in found] if is_rich else []
+        found |= {ink.name for ink in others if ink.name not in found
+                  and ((plates[ink.name][top:bottom] < maxval) & cover)[own].any()}
+    return [ink for ink in others if ink.name in found]
+
+
+def has_rich_black(plates: Plates, blacks: Sequence[Ink], others: Sequence[Ink]) -> bool:
+    """Whether some pixel is black and has another ink. Most pages have none, so that all of each is looked at."""
+    for first, end, _, _ in plates.bands(BAND_ROWS):
+        black = any_of(plates[ink.name][first:end] <= least_black(plates.maxval) for ink in blacks)
+        if black.any():
+            most = functools.reduce(numpy.minimum, (plates[ink.name][first:end] for ink in others))
+            if ((most < plates.maxval) & black).any():
+                return True
+    return False
+
+
+def least_black(maxval: int) -> int:
+    """The sample of the least tint that is black; 0 is full ink."""
+    return maxval - max(1, -(-BLACK_LIMIT * maxval // SCALE))
 
 
 def any_of(marks: Iterable[Array]) -> Array:
