@@ -8,6 +8,7 @@ import pytest
 from pikepdf import Array, Dictionary, Name, Stream
 
 from press import content
+from press.crew import Budget, Crew
 from press.inks import InkBook, Separation
 from press.plates import Plates
 from press.rects import Rect
@@ -55,6 +56,18 @@ def test_total_ink_and_where(maxval: int) -> None:
     assert not list(content.ink_findings(plates, inks, 1, 3.6))
     # Marks and patches outside the trim box are on more plates than a sheet can hold.
     assert content.coverage_of(plates, inks, Rect(5, 5, 90, 70)).total == pytest.approx(2.4, abs=0.005)
+
+
+def test_ink_is_measured_in_parts(monkeypatch: pytest.MonkeyPatch) -> None:
+    """Parts of a page by several processes give what the whole gives: of equal sums the first place."""
+    plates, inks = page((10, 10, 20, 20, (100, 100, 40, 0)), (100, 50, 10, 10, (100, 100, 40, 0)))
+    monkeypatch.setattr(content, "COVERAGE_PARTS", 1)
+    whole = content.coverage_of(plates, inks)
+    monkeypatch.setattr(content, "COVERAGE_PARTS", 8)
+    monkeypatch.setattr(content, "COVERAGE_ROWS", 8)
+    budget = Budget(2)
+    assert content.coverage_of(plates, inks, crew=Crew(budget)) == whole and budget.take(3) == 2
+    budget.close()
 
 
 def test_inks_that_meet_without_a_trap_are_named() -> None:

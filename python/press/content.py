@@ -3,6 +3,7 @@
 for each subject; each finding names the place in millimetres from the lower left corner of the page as it is drawn."""
 from __future__ import annotations
 
+import functools
 import math
 import re
 from collections.abc import Iterator, Sequence
@@ -12,6 +13,7 @@ from typing import Any
 import numpy
 import pikepdf
 
+from .crew import ALONE, Crew
 from .findings import NOTE, WARNING, Finding
 from .icc import read_profile
 from .images import moved_to_page
@@ -35,7 +37,7 @@ SMALL_TYPE, HAIRLINE, GROUND_SHARE = 7.0, 0.25, 0.3
 STEM, LEAST_PIXELS = 0.08, 3.0
 # An image of less dpi is coarse.
 COARSE = 150.0
-BAND_ROWS, COVERAGE_ROWS = 256, 64
+BAND_ROWS, COVERAGE_ROWS, COVERAGE_PARTS = 256, 64, 8
 # Where a text has its place.
 AT = "<at>"
 
@@ -58,36 +60,49 @@ def placed(kind: str, page: int, rect: Rect, text: str) -> Finding:
 
 # Ink
 
-def coverage_of(plates: Plates, inks: Sequence[Ink], within: Rect | None = None) -> Coverage:
-    """How much ink a page takes, row block by row block. Varnish, die lines and the like are left out of the total, and
-    so is what lies outside a box in points: marks are on every plate."""
-    inked = [array for array, ink in zip(plates.arrays, inks) if ink.has_ink and counts(ink.kind)]
-    total, place = highest_of_page(plates, inked, *inside(plates, within))
-    tints = [tints_of(array, plates.maxval) if ink.has_ink else 0 for array, ink in zip(plates.arrays, inks)]
-    release(*plates.arrays)
+def coverage_of(plates: Plates, inks: Sequence[Ink], within: Rect | None = None, crew: Crew = ALONE) -> Coverage:
+    """How much ink a page takes, row block by row block, some parts of it at once if the crew can. Varnish, die lines
+    and the like are left out of the total, and so is what lies outside a box in points: marks are on every plate."""
+    step = COVERAGE_ROWS * max(1, -(-plates.height // COVERAGE_ROWS // COVERAGE_PARTS))
+    parts = [range(top, min(plates.height, top + step)) for top in range(0, plates.height, step)]
+    seen = crew.each([functools.partial(covered, plates, inks, within, rows) for rows in parts])
+    # Of equal sums the first is taken.
+    total, place = max((one[1:] for one in seen), key=lambda one: one[0])
+    tints = [sum(several) for several in zip(*(one[0] for one in seen))]
     scale, samples = 72 / plates.resolution, plates.width * plates.height * plates.maxval
     return Coverage(tuple(one / samples for one in tints), max(total, 0) / plates.maxval,
                     ((place[1] + 0.5) * scale, (plates.height - place[0] - 0.5) * scale))
 
 
-def tints_of(array: Array, maxval: int) -> int:
-    """The sum of a plate's tints."""
-    bands = (array[start:start + COVERAGE_ROWS] for start in range(0, array.shape[0], COVERAGE_ROWS))
+def covered(plates: Plates, inks: Sequence[Ink], within: Rect | None,
+            rows: range) -> tuple[list[int], int, tuple[int, int]]:
+    """The sum of each plate's tints in some rows, the highest sum of all that count within a box, and its place."""
+    inked = [array for array, ink in zip(plates.arrays, inks) if ink.has_ink and counts(ink.kind)]
+    columns, lines = inside(plates, within)
+    lines = slice(max(lines.start, rows.start), min(lines.stop, rows.stop))
+    total, place = highest_of_page(inked, plates.maxval, columns, lines)
+    tints = [tints_of(array, plates.maxval, rows) if ink.has_ink else 0 for array, ink in zip(plates.arrays, inks)]
+    release(*plates.arrays)
+    return tints, total, place
+
+
+def tints_of(array: Array, maxval: int, rows: range) -> int:
+    """The sum of a plate's tints in some rows."""
+    bands = (array[start:min(rows.stop, start + COVERAGE_ROWS)] for start in rows[::COVERAGE_ROWS])
     return sum(band.size * maxval - int(band.sum(dtype=numpy.uint64)) for band in bands if int(band.min()) < maxval)
 
 
-def highest_of_page(plates: Plates, arrays: Sequence[Array], columns: slice,
-                    lines: slice) -> tuple[int, tuple[int, int]]:
+def highest_of_page(arrays: Sequence[Array], maxval: int, columns: slice, lines: slice) -> tuple[int, tuple[int, int]]:
     """The highest sum of the tints of plates in a part of a page, and its row and column, the first from the top and
     the left. -1 if no plate counts."""
     best, place = -1, (0, 0)
-    for first, end, _, _ in plates.bands(COVERAGE_ROWS) if arrays else ():
+    for first in range(lines.start, lines.stop, COVERAGE_ROWS) if arrays else ():
+        rows = slice(first, min(lines.stop, first + COVERAGE_ROWS))
         # No sum of tints in a column is more than that of its greatest tints.
-        most = sum(plates.maxval - array[first:end].min(axis=0).astype("i4") for array in arrays)
-        some = numpy.flatnonzero(most[columns] > best) + columns.start
-        rows = slice(max(lines.start, first), min(lines.stop, end))
-        if rows.start < rows.stop and len(some):
-            found, row, column = highest(arrays, plates.maxval, rows, slice(int(some[0]), int(some[-1]) + 1))
+        most = sum(maxval - array[rows, columns].min(axis=0).astype("i4") for array in arrays)
+        some = numpy.flatnonzero(most > best) + columns.start
+        if len(some):
+            found, row, column = highest(arrays, maxval, rows, slice(int(some[0]), int(some[-1]) + 1))
             if found > best:
                 best, place = found, (row, column)
     return best, place

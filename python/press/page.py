@@ -71,8 +71,11 @@ def prepare(source: Source, number: int, settings: Settings, book: InkBook, scra
     pairs = pairs_file(settings, source.path)
     if pairs:
         inks = tuple(directed(inks, read_pairs(pairs)))
+    within = trap_box(info, settings)[0]
+    coverage = coverage_of(rendering.plates, inks, within, crew)
     seen = later.result() if later.is_started else Ahead(*traced(source, number, info, settings))
-    return Page(source, number, info, rendering, inks, seen.trace, seen.untraced, None if edits else seen.parts)
+    return Page(source, number, info, rendering, inks, seen.trace, seen.untraced, None if edits else seen.parts,
+                {within: coverage})
 
 
 def option_edits(settings: Settings) -> InkEdits:
