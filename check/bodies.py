@@ -1,9 +1,9 @@
 #!/usr/bin/env python3
 # SPDX-License-Identifier: Apache-2.0
-"""Tries the wrong bodies of check/bodies, which the gate leaves out for its time: bodies.py [--texts] [CRATE ..], of all crates where none is named.
+"""Tries the mutants of check/bodies, which the gate leaves out for its time: bodies.py [--texts] [CRATE ..], of all crates where none is named.
 
 `rt must-fail` tries them in a copy of the crates, proved from nothing; some 20 to 60 seconds each. Its status is this program's. With --texts nothing is
-tried: it looks whether each wrong body, the gate's too, can still be applied, that is whether the line that it changes stands once in its file.
+tried: it looks whether each mutant, the gate's too, can still be applied, that is whether the line that it changes stands once in its file.
 """
 import os
 import shutil
@@ -16,13 +16,13 @@ BODIES = os.path.join(TOP, "check", "bodies")
 
 
 def edits_below(folder):
-    """The wrong bodies of a folder, by path."""
+    """The mutants of a folder, by path."""
     names = sorted(os.listdir(folder)) if os.path.isdir(folder) else []
     return [os.path.join(folder, name) for name in names if name.endswith(".edit")]
 
 
 def fault_of(edit, crate):
-    """Why a wrong body cannot be applied to the crate of that folder, or None."""
+    """Why a mutant cannot be applied to the crate of that folder, or None."""
     path, old, changes = None, None, 0
     with open(edit, encoding="utf-8") as file:
         for line in file.read().split("\n"):
@@ -53,15 +53,15 @@ def look(crates):
             if fault:
                 wrong += 1
                 print(f"{os.path.relpath(edit, TOP)}: {fault}")
-    print(f"{seen} wrong bodies, {wrong} that cannot be applied")
+    print(f"{seen} mutants, {wrong} that cannot be applied")
     return wrong
 
 
 def try_all(crates):
-    """Tries these crates' wrong bodies in a copy, and gives the status of rt."""
+    """Tries these crates' mutants in a copy, and gives the status of rt."""
     crates = [crate for crate in crates if edits_below(os.path.join(BODIES, crate))]
     if not crates:
-        print("check/bodies.py: no wrong bodies of these crates", file=sys.stderr)
+        print("check/bodies.py: no mutants of these crates", file=sys.stderr)
         return 2
     with tempfile.TemporaryDirectory() as room:
         for name in ("crates.txt", "HANDLES"):
