@@ -248,12 +248,13 @@ function showZones(app, on) {
  */
 function corners(page, zone, k, change) {
   const perMillimetre = page.dpi / 25.4;
-  return element('div', {}, zone.points.map((/** @type {number[]} */ point, /** @type {number} */ c) => element('div', { className: 'row' }, [0, 1].map((axis) => {
+  const head = element('div', { className: 'dim', textContent: 'Corners in mm, from the left and from the top' });
+  return element('div', {}, [head, ...zone.points.map((/** @type {number[]} */ point, /** @type {number} */ c) => element('div', { className: 'row' }, [0, 1].map((axis) => {
     const box = element('input', { type: 'number', step: 0.1, id: `zone-${k}-${c}-${axis}`, value: (point[axis] / perMillimetre).toFixed(2) });
     box.setAttribute('aria-label', `Corner ${c + 1}, ${axis ? 'from the top' : 'from the left'}, in millimetres`);
     box.onchange = () => change((/** @type {any} */ one) => { one.points[c][axis] = Math.round(Number(box.value) * perMillimetre); });
     return box;
-  }))));
+  })))]);
 }
 
 /**
