@@ -15,15 +15,12 @@ import shutil
 import subprocess
 import sys
 import tempfile
-import threading
 import time
 
-from timing import TOP
+from timing import ENVIRONMENT, TOP, Memory
 
 LABEL = os.path.join(TOP, "examples", "label", "label.pdf")
 LOOK_SECONDS = 0.5
-ENVIRONMENT = {**os.environ, "PATH": os.path.dirname(sys.executable) + ":" + os.environ["PATH"]}
-ENVIRONMENT.pop("PYTHONDONTWRITEBYTECODE", None)
 
 
 def make_book(source, pages, folder):
@@ -39,51 +36,16 @@ def make_book(source, pages, folder):
     return book
 
 
-def below(first):
-    """The process and all that it started, which keep its session."""
-    found = []
-    for name in filter(str.isdigit, os.listdir("/proc")):
-        try:
-            with open("/proc/%s/stat" % name, encoding="utf-8", errors="replace") as file:
-                session = int(file.read().rpartition(")")[2].split()[3])
-        except (OSError, ValueError, IndexError):
-            continue
-        if session == first:
-            found.append(name)
-    return found
-
-
-def memory_of(process):
-    """Its bytes, a page that several have being shared among them; nothing where it has just ended."""
-    try:
-        with open("/proc/%s/smaps_rollup" % process, encoding="ascii") as file:
-            return sum(int(line.split()[1]) * 1024 for line in file if line.startswith("Pss:"))
-    except (OSError, ValueError):
-        return 0
-
-
-class Watch(threading.Thread):
-    """Looks at the memory of a session until it is told to stop."""
-
-    def __init__(self, session):
-        super().__init__(daemon=True)
-        self.session, self.most, self.ended = session, 0, threading.Event()
-
-    def run(self):
-        while not self.ended.wait(LOOK_SECONDS):
-            self.most = max(self.most, sum(map(memory_of, below(self.session))))
-
-
 def run(command):
     """Runs it in a session of its own. Answers its status, the seconds that passed, those of processors, and its most bytes."""
     start = time.perf_counter()
     child = subprocess.Popen(command, env=ENVIRONMENT, stdout=subprocess.DEVNULL, start_new_session=True)
-    watch = Watch(child.pid)
-    watch.start()
+    memory = Memory(child.pid, LOOK_SECONDS)
+    memory.start()
     _, status, used = os.wait4(child.pid, 0)
-    watch.ended.set()
+    memory.ended.set()
     child.returncode = os.waitstatus_to_exitcode(status)
-    return child.returncode, time.perf_counter() - start, used.ru_utime + used.ru_stime, watch.most
+    return child.returncode, time.perf_counter() - start, used.ru_utime + used.ru_stime, memory.most
 
 
 def on_disk(folder):

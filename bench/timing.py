@@ -6,6 +6,8 @@ first says little and the second more.
 """
 import os
 import subprocess
+import sys
+import threading
 import time
 from collections import namedtuple
 
@@ -15,7 +17,38 @@ PROGRAM = os.path.join(TOP, "crates", "trap", "out", "trap")
 # A job that traps nothing: what it takes is reading, checking and writing alone.
 NO_TRAPS = b"<< /Enabled false >> settrapparams showpage"
 
+# The environment of press commands: the python3 that runs the bench is first on the PATH, and modules are compiled.
+ENVIRONMENT = {**os.environ, "PATH": os.path.dirname(sys.executable) + ":" + os.environ["PATH"]}
+ENVIRONMENT.pop("PYTHONDONTWRITEBYTECODE", None)
+
 Timed = namedtuple("Timed", "seconds worked peak_megabytes")
+
+
+def session_memory(session):
+    """The bytes of memory that all processes of a session have, what several share being counted once."""
+    total = 0
+    for name in filter(str.isdigit, os.listdir("/proc")):
+        try:
+            with open("/proc/%s/stat" % name, encoding="utf-8", errors="replace") as file:
+                if int(file.read().rpartition(")")[2].split()[3]) != session:
+                    continue
+            with open("/proc/%s/smaps_rollup" % name, encoding="ascii") as file:
+                total += sum(int(line.split()[1]) * 1024 for line in file if line.startswith("Pss:"))
+        except (OSError, ValueError, IndexError):
+            continue
+    return total
+
+
+class Memory(threading.Thread):
+    """Looks at the memory of a session every so many seconds until it is stopped."""
+
+    def __init__(self, session, seconds):
+        super().__init__(daemon=True)
+        self.session, self.seconds, self.most, self.ended = session, seconds, 0, threading.Event()
+
+    def run(self):
+        while not self.ended.wait(self.seconds):
+            self.most = max(self.most, session_memory(self.session))
 
 
 def timed(command):

@@ -26,19 +26,15 @@ import os
 import shutil
 import subprocess
 import tempfile
-import threading
 import time
 from dataclasses import dataclass, replace
 
 from a4_page import PAGE, write
-from timing import TOP
+from timing import ENVIRONMENT, TOP, Memory
 
 GHOSTSCRIPT = ["gs", "-q", "-dSAFER", "-dBATCH", "-dNOPAUSE", "-sDEVICE=tiffsep", "-sCompression=none", "-r600"]
 LABEL = os.path.join(TOP, "examples", "label", "label.pdf")
 LOOK_SECONDS = 0.02
-# The environment of all commands.
-ENVIRONMENT = {**os.environ, "PATH": os.path.dirname(sys.executable) + ":" + os.environ["PATH"]}
-ENVIRONMENT.pop("PYTHONDONTWRITEBYTECODE", None)
 HEAD = "%-46s %7s %6s %7s %6s %8s %8s %7s" % ("", "CPU s", "times", "wall s", "procs", "read MB", "wrote MB", "peak MB")
 
 
@@ -54,33 +50,6 @@ class Used:
     processes: int | None = None
 
 
-def session_memory(session):
-    """The bytes of memory that all processes of a session have, what several share being counted once."""
-    total = 0
-    for name in filter(str.isdigit, os.listdir("/proc")):
-        try:
-            with open("/proc/%s/stat" % name, encoding="utf-8", errors="replace") as file:
-                if int(file.read().rpartition(")")[2].split()[3]) != session:
-                    continue
-            with open("/proc/%s/smaps_rollup" % name, encoding="ascii") as file:
-                total += sum(int(line.split()[1]) * 1024 for line in file if line.startswith("Pss:"))
-        except (OSError, ValueError, IndexError):
-            continue
-    return total
-
-
-class Memory(threading.Thread):
-    """Looks at the memory of a session until it is stopped."""
-
-    def __init__(self, session):
-        super().__init__(daemon=True)
-        self.session, self.most, self.ended = session, 0, threading.Event()
-
-    def run(self):
-        while not self.ended.wait(LOOK_SECONDS):
-            self.most = max(self.most, session_memory(self.session))
-
-
 def bytes_of(process):
     """What a process that has ended, and those that it waited for, read and wrote by system calls."""
     with open("/proc/%d/io" % process, encoding="ascii") as file:
@@ -93,7 +62,7 @@ def measured(words, folder):
     start = time.perf_counter()
     child = subprocess.Popen(words, cwd=folder, env=ENVIRONMENT, stdout=subprocess.DEVNULL, stderr=subprocess.PIPE,
                              start_new_session=True)
-    memory = Memory(child.pid)
+    memory = Memory(child.pid, LOOK_SECONDS)
     memory.start()
     complaint = child.stderr.read()
     os.waitid(os.P_PID, child.pid, os.WEXITED | os.WNOWAIT)

@@ -7,12 +7,11 @@ import pytest
 
 from press.errors import PressError, UsageError
 from press.inks import InkBook, Separation
-from press.job_language import read_job
-from press.layout import lay_out
+from press.job_language import Parameters, read_job
+from press.layout import lay_out, stroke_rule
 from press.pairs import directed, pair_places, pairs_file, read_pairs
 from press.plates import Plates
 from press.settings import Settings
-from press.strokes import Rule
 
 pytestmark = [pytest.mark.quick, pytest.mark.plain]
 DENSITIES = {"Cyan": "0.61", "Magenta": "0.76", "Yellow": "0.16", "Red": "0.80", "Gold": "2.0"}
@@ -99,7 +98,7 @@ def test_places_with_other_inks_are_refused(tmp_path: Path) -> None:
     plates = page(*((4 * at, 10, 4, 80, ("Cyan", "Red", "Magenta")[at % 3]) for at in range(45)))
     rules = read_pairs(table(tmp_path / "p", "Red\tCyan\tnever"))
     with pytest.raises(PressError, match="Red and Cyan meet where other inks do too"):
-        list(pair_places(plates.arrays, inks_of(), rules, Rule(), 300))
+        list(pair_places(plates.arrays, inks_of(), rules, stroke_rule(Parameters()), 300))
 
 
 def test_which_table_is_taken(tmp_path: Path, monkeypatch: pytest.MonkeyPatch) -> None:

@@ -3,17 +3,20 @@
 Pages are drawn here."""
 import math
 import tracemalloc
+from dataclasses import replace
 
 import numpy as np
 import pytest
 
 from press import canvas, strokes, thin
-from press.strokes import Box, Ink, Rule
+from press.job_language import Parameters
+from press.layout import stroke_rule
+from press.strokes import Box, Ink
 
 pytestmark = [pytest.mark.quick, pytest.mark.plain]
 
 # A trap of 1.89 pixels at 600 dpi, as the offset preset has it; and one of 4.72, as flexo.
-OFFSET, FLEXO = Rule(width=0.08 * 72 / 25.4), Rule(width=0.2 * 72 / 25.4)
+OFFSET, FLEXO = (replace(stroke_rule(Parameters()), width=width * 72 / 25.4) for width in (0.08, 0.2))
 CYAN, MAGENTA, YELLOW, BLACK = Ink(0.61), Ink(0.76), Ink(0.16), Ink(1.7)
 INKS = (CYAN, MAGENTA, YELLOW, BLACK)
 RED, BLUE, PAPER, GREEN = (0, 240, 240, 0), (255, 153, 0, 51), (0, 0, 0, 0), (230, 0, 230, 0)

@@ -3,7 +3,8 @@
 together."""
 from __future__ import annotations
 
-from dataclasses import dataclass
+from dataclasses import dataclass, fields
+from typing import Self
 
 import numpy as np
 import numpy.typing as npt
@@ -83,7 +84,25 @@ class Tallies:
 
 
 @dataclass
-class Runs:
+class Columns:
+    """Columns of numbers, all of one length: a row for each of several things."""
+
+    @classmethod
+    def none(cls) -> Self:
+        """No row."""
+        return cls(*(np.zeros(0, np.int64) for _ in fields(cls)))
+
+    def chosen(self, which: Numbers | Mask) -> Self:
+        """Some rows."""
+        return type(self)(*(getattr(self, one.name)[which] for one in fields(self)))
+
+    def joined(self, other: Self) -> Self:
+        """Its rows, and those of another one."""
+        return type(self)(*(np.concatenate((getattr(self, one.name), getattr(other, one.name))) for one in fields(self)))
+
+
+@dataclass
+class Runs(Columns):
     """Runs of pixels of one part in a row: the row, the first and the last column, and the part's number."""
 
     row: Numbers
@@ -91,20 +110,9 @@ class Runs:
     last: Numbers
     part: Numbers
 
-    @classmethod
-    def none(cls) -> Runs:
-        return cls(*(np.zeros(0, np.int64) for _ in range(4)))
-
-    def chosen(self, which: Numbers | Mask) -> Runs:
-        return Runs(self.row[which], self.first[which], self.last[which], self.part[which])
-
-    def joined(self, other: Runs) -> Runs:
-        return Runs(np.concatenate((self.row, other.row)), np.concatenate((self.first, other.first)),
-                    np.concatenate((self.last, other.last)), np.concatenate((self.part, other.part)))
-
 
 @dataclass
-class Covers:
+class Covers(Columns):
     """Boxes within tiles that a part's pixels fill, inclusive, with the part's number."""
 
     left: Numbers
@@ -112,10 +120,6 @@ class Covers:
     right: Numbers
     lower: Numbers
     part: Numbers
-
-    @classmethod
-    def none(cls) -> Covers:
-        return cls(*(np.zeros(0, np.int64) for _ in range(5)))
 
     @classmethod
     def of_runs(cls, runs: Runs, tile: int) -> Covers:
@@ -140,10 +144,3 @@ class Covers:
         left, upper = (np.minimum.reduceat(one[order], starts) for one in (self.left, self.upper))
         right, lower = (np.maximum.reduceat(one[order], starts) for one in (self.right, self.lower))
         return Covers(left, upper, right, lower, parts[starts])
-
-    def chosen(self, which: Numbers | Mask) -> Covers:
-        return Covers(self.left[which], self.upper[which], self.right[which], self.lower[which], self.part[which])
-
-    def joined(self, other: Covers) -> Covers:
-        names = ("left", "upper", "right", "lower", "part")
-        return Covers(*(np.concatenate((getattr(self, name), getattr(other, name))) for name in names))

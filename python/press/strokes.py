@@ -58,12 +58,12 @@ class Ink:
 class Rule:
     """The trapping parameters in force on the page, named as in the job language; `width` is in points."""
 
-    width: float = 0.25
-    black_width: float = 1.0
-    black_color_limit: float = 0.95
-    black_density_limit: float = 1.6
-    step_limit: float = 0.25
-    sliding_limit: float = 0.7
+    width: float
+    black_width: float
+    black_color_limit: float
+    black_density_limit: float
+    step_limit: float
+    sliding_limit: float
 
 
 @dataclass(frozen=True)
