@@ -44,10 +44,21 @@ closed() {
   echo "library: its global names are the exports, and its tables are read-only"
 }
 
+# The toolchain's crates that have code in the library are those that THIRD-PARTY names for it, besides libc's allocator.
+noted() {
+  local crate
+  for crate in $(nm "$library/libtrap.a" | awk '$2 == "t" { print $3 }' | sed -n 's/::.*//p' | sort -u); do
+    grep -q "^${crate}[: ]" "$top/crates.txt" || grep -q "^  ${crate}  .*libtrap" "$top/THIRD-PARTY" ||
+      { echo "check/library.sh: libtrap.a has code of $crate, and THIRD-PARTY does not name it" >&2; return 1; }
+  done
+  echo "library: THIRD-PARTY names the toolchain's crates that have code in it"
+}
+
 # compiled NAME WORD ..: a program of this folder, against the header.
 compiled() { "$CC" -std=c99 -O2 -g -Wall -Wextra -Werror -I"$top/library" -o "$out/$1" "$here/library/$1.c" "${@:2}"; }
 
 python3 -B "$here/library/boundary.py"
+if there nm; then noted; else skip "crates in the library" "there is no nm"; fi
 if there nm && there size; then bare; else skip "what the library asks for" "there is no nm"; fi
 if there nm && there readelf && there objcopy; then closed; else skip "what others see of the library" "there is no readelf or objcopy"; fi
 python3 -B "$here/library.py" "$1" "$2"
@@ -66,6 +77,8 @@ compiled threads "${shared[@]}"
 "$out/threads"
 compiled stack -pthread "$library/libtrap.a"
 "$out/stack"
+compiled stated "$library/libtrap.a"
+"$out/stated"
 compiled random -pthread "$library/libtrap.a"
 "$out/random" 20000 "$2" 8
 
@@ -92,11 +105,13 @@ sanitized() {
 }
 
 if sanitized page.asan address,undefined "$top/examples/library/page.c" "$library/libtrap.a" &&
-  sanitized tiles.asan address,undefined "$top/examples/library/tiles.c" "$library/libtrap.a" -pthread; then
+  sanitized tiles.asan address,undefined "$top/examples/library/tiles.c" "$library/libtrap.a" -pthread &&
+  sanitized bands.asan address,undefined "$top/examples/library/bands.c" "$library/libtrap.a"; then
   page "${steady[@]}" "$out/page.asan"
   page "${steady[@]}" "$out/page.asan" -8
-  page "${steady[@]}" "$out/tiles.asan"
-  echo "library: AddressSanitizer finds nothing on the poster, as a page and tile by tile"
+  page "${steady[@]}" "$out/tiles.asan" 300
+  page "${steady[@]}" "$out/bands.asan" 300
+  echo "library: AddressSanitizer finds nothing on the poster, as a page, tile by tile and band by band"
 fi
 if flags=$("$top/examples/library/libgs-flags"); then
   # shellcheck disable=SC2086
@@ -128,9 +143,11 @@ if ! there valgrind; then
 fi
 "$CC" -std=c99 -D_POSIX_C_SOURCE=200809L -O2 -g -I"$top/library" -o "$out/page" "$top/examples/library/page.c" "$library/libtrap.a"
 "$CC" -std=c99 -D_POSIX_C_SOURCE=200809L -O2 -g -I"$top/library" -o "$out/tiles" -pthread "$top/examples/library/tiles.c" "$library/libtrap.a"
+"$CC" -std=c99 -D_POSIX_C_SOURCE=200809L -O2 -g -I"$top/library" -o "$out/bands" "$top/examples/library/bands.c" "$library/libtrap.a"
 page valgrind -q --error-exitcode=9 --leak-check=full "$out/page" -8
-page valgrind -q --error-exitcode=9 --leak-check=full "$out/tiles"
-echo "library: Valgrind finds nothing on the poster, as a page and tile by tile"
+page valgrind -q --error-exitcode=9 --leak-check=full "$out/tiles" 300
+page valgrind -q --error-exitcode=9 --leak-check=full "$out/bands" 300
+echo "library: Valgrind finds nothing on the poster, as a page, tile by tile and band by band"
 valgrind -q --tool=helgrind --error-exitcode=9 "$out/threads" 16
 echo "library: Valgrind's helgrind finds nothing between eight threads"
 valgrind -q --error-exitcode=9 --leak-check=full "$out/random" 500 "$2" 2 >"$out/told"
