@@ -54,7 +54,7 @@ SETUP: dict[str, tuple[str, ...]] = {
     "man/press-look.1": PAGE, "man/trap.1": PLATES, "man/presscheck.1": PLATES, "man/trapset.1": PLATES, "man/trapsheet.1": PLATES,
     "man/trappool.1": (*PLATES, *(f"cp poster.job {name}; cp c.pgm {name}.c; cp m.pgm {name}.k" for name in ("prefix", "back")),
                        "grep -E '^(prefix|back) ' man/trappool.1 >list"),
-    "docs/VERSIONS.md": tuple(f"mkdir -p {place}; cp label.pdf {place}/catalogue.pdf" for place in (".", "monday", "tuesday")),
+    "docs/JOB_VERSIONS.md": tuple(f"mkdir -p {place}; cp label.pdf {place}/catalogue.pdf" for place in (".", "monday", "tuesday")),
     "examples/poster/README.md": ("examples/poster/run.sh",)}
 RENDERING = re.compile(r"press/(all|plates|farm) ")
 
@@ -70,7 +70,7 @@ def test_every_block_is_known() -> None:
     """Each block is of a kind that a test here runs, or is no input of a program: pictures, formulas, contracts, printed lines."""
     shown = [(block.document, block.text) for block in every_block() if block.kind == "other"]
     expected = {"docs/DESIGN.md": "words  ", "docs/KEEPAWAY.md": "t'(p)", "docs/PLATES.md": "50 35",
-                "docs/TRAPPED_PDF.md": "press-pdf: ", "docs/VERSIONS.md": "page 1: the same"}
+                "docs/TRAPPED_PDF.md": "press-pdf: ", "docs/JOB_VERSIONS.md": "page 1: the same"}
     assert [document for document, text in shown if not text.startswith(expected.get(document, "\0"))] == []
 
 
