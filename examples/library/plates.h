@@ -90,17 +90,19 @@ static void read_plate(struct planes *planes, int c, int plates, const char *nam
   free(file.at);
 }
 
-/* Reads the plates of words NAME:IN:OUT. The names go into a text, an LF between one and the next, and one by one; the words are
- * cut for it. */
+/* Cuts a word NAME:IN:OUT. The name is put at the end of a text, an LF between one and the next. Answers IN. */
+static inline const char *cut_word(char *word, char *names, char **name, char **out) {
+  char *in = strchr(word, ':'), *after = in ? strchr(in + 1, ':') : 0;
+  if (!after || in - word > 64) stop(word, "is no NAME:IN:OUT");
+  *in = *after = 0, *name = word, *out = after + 1;
+  strcat(strcat(names, *names ? "\n" : ""), word);
+  return in + 1;
+}
+
+/* Reads the plates of words NAME:IN:OUT, whose names are put into a text, and one by one. */
 static inline void read_plates(struct planes *planes, int plates, char **words, char *names, char **named, char **outs) {
   names[0] = 0;
-  for (int c = 0; c < plates; c++) {
-    char *name = words[c], *in = strchr(name, ':'), *out = in ? strchr(in + 1, ':') : 0;
-    if (!out || in - name > 64) stop(name, "is no NAME:IN:OUT");
-    *in = *out = 0, named[c] = name, outs[c] = out + 1;
-    strcat(strcat(names, c ? "\n" : ""), name);
-    read_plate(planes, c, plates, in + 1);
-  }
+  for (int c = 0; c < plates; c++) read_plate(planes, c, plates, cut_word(words[c], names, &named[c], &outs[c]));
 }
 
 static inline void write_plate(const struct planes *planes, int c, const char *name) {

@@ -5,6 +5,7 @@
  * as FOLDER/PAGE-NAME.pgm; with "-" in place of JOB as they were rendered. It ends with the library's status, and with 1 if Poppler fails
  * or a file cannot be read or written. */
 #include "trap.h"
+#include "windows.h"
 
 #include <poppler/GfxState.h>
 #include <poppler/GlobalParams.h>
@@ -39,16 +40,6 @@ struct Rendered {
 /* The plates of a page, each row by row from the top; 0 is no ink. */
 using Plates = std::vector<std::vector<uint8_t>>;
 
-/* The first and the number of columns or rows of a tile's window, and where its core begins in it. */
-struct Reach {
-  uint32_t first, count, core;
-};
-
-Reach reach(uint32_t core, uint32_t core_count, uint32_t halo, uint32_t side) {
-  const uint32_t first = core > halo ? core - halo : 0;
-  return {first, std::min(core + core_count + halo, side) - first, core - first};
-}
-
 /* A name as a job has it: what it cannot have becomes an underscore. */
 std::string job_name(const std::string &name) {
   std::string made = name.substr(0, 64);
@@ -81,10 +72,16 @@ Plates untrapped(const Rendered &page) {
   return plates;
 }
 
+/* A job, its halo, and the grid on which its windows lie. */
+struct Job {
+  std::string text;
+  uint32_t halo, grid;
+};
+
 /* Traps the tile whose core begins there. Returns the library's status; the line of a refusal goes to standard error. */
-trap_status trap_tile(const Rendered &page, const std::string &job, uint32_t halo, uint32_t left, uint32_t top, Plates &plates) {
+trap_status trap_tile(const Rendered &page, const Job &job, uint32_t left, uint32_t top, Plates &plates) {
   const uint32_t wide = std::min(tile_side, page.width - left), tall = std::min(tile_side, page.height - top);
-  const Reach across = reach(left, wide, halo, page.width), down = reach(top, tall, halo, page.height);
+  const along across = columns_of(left, wide, job.halo, job.grid, page.width), down = rows_of(top, tall, job.halo, job.grid, page.height);
   std::vector<uint8_t> window;
   window.reserve(page.names.size() * across.count * down.count);
   for (size_t c = 0; c < page.names.size(); c++)
@@ -95,7 +92,7 @@ trap_status trap_tile(const Rendered &page, const std::string &job, uint32_t hal
   std::vector<char> text(LIBTRAP_TEXT_SIZE);
   size_t text_len = 0;
   const trap_status status =
-      trap_window8(job.data(), job.size(), names.data(), names.size(), window.data(), window.size(), across.count, down.count,
+      trap_window8(job.text.data(), job.text.size(), names.data(), names.size(), window.data(), window.size(), across.count, down.count,
                    across.count, 255, &place, text.data(), text.size(), &text_len);
   if (status != LIBTRAP_DONE) return std::cerr.write(text.data(), text_len), status;
   for (size_t c = 0; c < plates.size(); c++)
@@ -106,15 +103,15 @@ trap_status trap_tile(const Rendered &page, const std::string &job, uint32_t hal
   return status;
 }
 
-trap_status trap_page(const Rendered &page, const std::string &job, Plates &plates) {
-  uint32_t halo = 0;
+trap_status trap_page(const Rendered &page, const std::string &text_of_job, unsigned dpi, Plates &plates) {
+  Job job{text_of_job, 0, grid_of(dpi)};
   size_t text_len = 0;
   std::vector<char> text(LIBTRAP_TEXT_SIZE);
-  trap_status status = trap_halo(job.data(), job.size(), &halo, text.data(), text.size(), &text_len);
+  trap_status status = trap_halo(job.text.data(), job.text.size(), &job.halo, text.data(), text.size(), &text_len);
   if (status != LIBTRAP_DONE) return std::cerr.write(text.data(), text_len), status;
   for (uint32_t top = 0; status == LIBTRAP_DONE && top < page.height; top += tile_side)
     for (uint32_t left = 0; status == LIBTRAP_DONE && left < page.width; left += tile_side)
-      status = trap_tile(page, job, halo, left, top, plates);
+      status = trap_tile(page, job, left, top, plates);
   return status;
 }
 
@@ -130,11 +127,11 @@ bool write_plates(const Rendered &page, const Plates &plates, const std::string 
   return true;
 }
 
-int rip_page(PDFDoc &document, SplashOutputDev &device, int number, double dpi, const std::string *job, const std::string &folder) {
+int rip_page(PDFDoc &document, SplashOutputDev &device, int number, unsigned dpi, const std::string *job, const std::string &folder) {
   document.displayPage(&device, number, dpi, dpi, 0, false, true, true);
   const Rendered page = rendered(*device.getBitmap());
   Plates plates = untrapped(page);
-  const trap_status status = job ? trap_page(page, *job, plates) : trap_status(LIBTRAP_DONE);
+  const trap_status status = job ? trap_page(page, *job, dpi, plates) : trap_status(LIBTRAP_DONE);
   if (status != LIBTRAP_DONE) return status;
   if (!write_plates(page, plates, folder + "/" + std::to_string(number) + "-")) return poppler_fails;
   std::cout << "page " << number << ": " << page.width << " by " << page.height << " in " << plates.size() << " planes\n";
@@ -144,7 +141,8 @@ int rip_page(PDFDoc &document, SplashOutputDev &device, int number, double dpi, 
 }  // namespace
 
 int main(int count, char **words) {
-  if (count != 5) return std::cerr << "usage: rip_poppler IN.pdf DPI JOB FOLDER\n", 2;
+  const int dpi = count > 2 ? std::atoi(words[2]) : 0;
+  if (count != 5 || dpi < 1) return std::cerr << "usage: rip_poppler IN.pdf DPI JOB FOLDER\n", 2;
   std::string job;
   const bool traps = std::strcmp(words[3], "-") != 0;
   if (traps) {
@@ -160,6 +158,6 @@ int main(int count, char **words) {
   device.startDoc(&document);
   int status = 0;
   for (int number = 1; status == 0 && number <= document.getNumPages(); number++)
-    status = rip_page(document, device, number, std::atof(words[2]), traps ? &job : nullptr, words[4]);
+    status = rip_page(document, device, number, dpi, traps ? &job : nullptr, words[4]);
   return status;
 }

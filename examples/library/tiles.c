@@ -1,29 +1,26 @@
 /* SPDX-License-Identifier: Apache-2.0 */
-/* tiles JOB REPORT NAME:IN:OUT ..: what page.c does, tile by tile from four threads, as a RIP that renders in tiles or bands may do it.
+/* tiles DPI JOB REPORT NAME:IN:OUT ..: what page.c does, tile by tile from four threads, as a RIP that renders in tiles may do it. DPI is
+ * the job's resolution.
  *
- * The page is cut into tiles. Each tile is the core of a window of the page: around it are as many rows and columns of its neighbours
- * as trap_halo says. A window reads its halo as it was rendered, so each thread copies its window out of the rendered page, traps it,
- * and puts the core into the trapped page. The counts of the tiles' reports are added up. It ends with the library's status, and with
- * 1 if a file cannot be read or written. */
+ * The page is cut into tiles. Each tile is the core of a window of the page: around it are at least as many rows and columns of its
+ * neighbours as trap_halo says, and so many more that the window lies on the grid of the resolution. A window reads its halo as it was
+ * rendered, so each thread copies its window out of the rendered page, traps it, and puts the core into the trapped page. The counts of
+ * the tiles' reports are added up. It ends with the library's status, and with 1 if a file cannot be read or written. */
 #include <pthread.h>
 
 #include "plates.h"
+#include "reports.h"
 #include "trap.h"
+#include "windows.h"
 
-enum { THREADS = 4, TILE = 128, MOST_ZONES = 251 }; /* on a page of 600 dpi tiles of 256 to 512 are fast */
-
-/* What the reports of all tiles count together. */
-struct sums {
-  unsigned long long samples[MOST_ZONES], changed[MOST_ZONES], edges, plates[LIBTRAP_MOST_PLANES];
-  int zones;
-};
+enum { THREADS = 4, TILE = 128 }; /* on a page of 600 dpi tiles of 256 to 512 are fast */
 
 /* What all threads share, and none writes but to its own tiles. */
 struct work {
   struct bytes job;
   const char *names;
   int plates;
-  unsigned halo;
+  unsigned halo, grid;
   struct planes rendered, trapped;
 };
 
@@ -37,42 +34,18 @@ struct share {
   struct sums sums;
 };
 
-/* The columns of a window, or its rows: the first on the page and their number; and the core's first in the window, and their number. */
-struct along {
-  unsigned first, count, core, core_count;
-};
-
-static struct along along(unsigned core, unsigned halo, unsigned side) {
-  unsigned core_count = side - core > TILE ? TILE : side - core, first = core > halo ? core - halo : 0;
-  unsigned end = side - (core + core_count) > halo ? core + core_count + halo : side;
-  struct along made = {first, end - first, core - first, core_count};
-  return made;
-}
-
 static uint8_t *at(const struct planes *planes, int c, unsigned y, unsigned x) {
   return (uint8_t *)planes->samples + ((size_t)c * planes->height + y) * planes->width + x;
 }
 
-/* Adds a tile's report, line by line. */
-static void add_report(struct sums *sums, char *text) {
-  int zone, plate = 0;
-  unsigned long long samples, changed;
-  for (char *line = strtok_r(text, "\n", &text); line; line = strtok_r(0, "\n", &text)) {
-    if (sscanf(line, "zone %d samples %llu changed %llu", &zone, &samples, &changed) == 3) {
-      sums->samples[zone] += samples, sums->changed[zone] += changed, sums->zones = zone + 1;
-    } else if (sscanf(line, "edges %llu", &samples) == 1) {
-      sums->edges += samples;
-    } else if (sscanf(line, "plate %*s changed %llu", &changed) == 1) {
-      sums->plates[plate++] += changed;
-    }
-  }
-}
+static unsigned least(unsigned a, unsigned b) { return a < b ? a : b; }
 
 /* Traps the tile that begins there, in a window of its own. */
 static trap_status trap_tile(struct share *share, unsigned left, unsigned top) {
   const struct work *work = share->work;
   const struct planes *page = &work->rendered;
-  struct along x = along(left, work->halo, page->width), y = along(top, work->halo, page->height);
+  struct along x = columns_of(left, least(TILE, page->width - left), work->halo, work->grid, page->width);
+  struct along y = rows_of(top, least(TILE, page->height - top), work->halo, work->grid, page->height);
   struct planes window = {1, 0, x.count, y.count, page->maxval, (size_t)work->plates * x.count * y.count};
   window.samples = room(window.count);
   for (int c = 0; c < work->plates; c++)
@@ -102,18 +75,10 @@ static void *walk(void *of) {
 }
 
 static void write_report(const struct work *work, const struct share *shares, char **names, const char *name) {
-  struct sums all = {{0}, {0}, 0, {0}, shares[0].sums.zones};
-  for (int k = 0; k < THREADS; k++) {
-    for (int z = 0; z < all.zones; z++) all.samples[z] += shares[k].sums.samples[z], all.changed[z] += shares[k].sums.changed[z];
-    for (int c = 0; c < work->plates; c++) all.plates[c] += shares[k].sums.plates[c];
-    all.edges += shares[k].sums.edges;
-  }
+  static struct sums all;
+  for (int k = 0; k < THREADS; k++) add_sums(&all, &shares[k].sums);
   FILE *file = begun(name);
-  fprintf(file, "trap report\npage %u %u %u plates %d\n", work->rendered.width, work->rendered.height, work->rendered.maxval, work->plates);
-  for (int z = 0; z < all.zones; z++) fprintf(file, "zone %d samples %llu changed %llu\n", z, all.samples[z], all.changed[z]);
-  fprintf(file, "edges %llu\n", all.edges);
-  for (int c = 0; c < work->plates; c++) fprintf(file, "plate %s changed %llu\n", names[c], all.plates[c]);
-  fprintf(file, "end\n");
+  print_sums(file, &all, work->rendered.width, work->rendered.height, work->rendered.maxval, work->plates, names);
   if (fclose(file)) stop(name, strerror(errno));
 }
 
@@ -126,11 +91,13 @@ static trap_status joined(const struct share *shares) {
 
 int main(int count, char **words) {
   static struct share shares[THREADS];
-  struct work work = {.plates = count - 3, .rendered = {.bytes_each = 1}};
-  if (work.plates < 1 || work.plates > LIBTRAP_MOST_PLANES) return fprintf(stderr, "usage: tiles JOB REPORT NAME:IN:OUT ..\n"), 2;
+  int dpi = count > 1 ? atoi(words[1]) : 0;
+  struct work work = {.plates = count - 4, .rendered = {.bytes_each = 1}};
+  if (work.plates < 1 || work.plates > LIBTRAP_MOST_PLANES || dpi < 1)
+    return fprintf(stderr, "usage: tiles DPI JOB REPORT NAME:IN:OUT ..\n"), 2;
   char *outs[LIBTRAP_MOST_PLANES], *named[LIBTRAP_MOST_PLANES], names[LIBTRAP_MOST_PLANES * 65 + 1];
-  work.job = whole(words[1]);
-  read_plates(&work.rendered, work.plates, words + 3, names, named, outs);
+  work.grid = grid_of(dpi), work.job = whole(words[2]);
+  read_plates(&work.rendered, work.plates, words + 4, names, named, outs);
   work.names = names, work.trapped = work.rendered;
   work.trapped.samples = room(work.trapped.count);
   trap_status status = trap_halo(work.job.at, work.job.size, &work.halo, shares[0].text, sizeof shares[0].text, &shares[0].text_len);
@@ -142,7 +109,7 @@ int main(int count, char **words) {
   }
   for (int k = 0; k < THREADS; k++) pthread_join(threads[k], 0);
   status = joined(shares);
-  if (status == LIBTRAP_DONE) write_report(&work, shares, named, words[2]);
+  if (status == LIBTRAP_DONE) write_report(&work, shares, named, words[3]);
   for (int c = 0; c < work.plates && status == LIBTRAP_DONE; c++) write_plate(&work.trapped, c, outs[c]);
   free(work.rendered.samples), free(work.trapped.samples), free(work.job.at);
   return status;
