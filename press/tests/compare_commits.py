@@ -13,11 +13,13 @@ the status is 1 then. Times and sizes on the disk in printed lines are left asid
   --both OPTION an option that both commits are given, --both=--width=2pt say; it may be given several times
   --two OPTION  the same for the second commit alone, --two=--no-thin-zones say, by which it does what the first one does
   --two-all OPTION   the same for its press/all alone, --two-all=--composite say, which press/check does not have
+  --asked       leaves aside and counts what was asked for since the press commands were scripts, by asked_changes.py
   --aside NAME  files of this name are left aside; it may be given several times
   --keep DIR    keeps in DIR what the commits made
 """
 import argparse
 import base64
+import collections
 import io
 import json
 import os
@@ -37,6 +39,7 @@ TOP = HERE.parents[1]
 sys.path.insert(0, str(HERE))
 import numpy  # noqa: E402
 from PIL import Image  # noqa: E402
+from asked_changes import FILES, OPTIONS, respelled, rewritten, why_added, without_added  # noqa: E402
 from readers import tiff_tags  # noqa: E402
 import small_pdf  # noqa: E402
 import worst_files  # noqa: E402
@@ -101,60 +104,93 @@ def text_of(text: str) -> str:
     return text
 
 
-def sheets_differ(one: str, two: str) -> str | None:
-    """How two proof sheets differ, or None: their texts, and their pictures by more than one level."""
-    if PICTURE.sub("PICTURE", one) != PICTURE.sub("PICTURE", two):
-        return "text"
-    for first, second in zip(PICTURE.findall(one), PICTURE.findall(two), strict=True):
-        found = None if first == second else pictures_differ(base64.b64decode(first), base64.b64decode(second))
-        if found:
-            return found
-    return None
+def sheet_pictures_differ(one: str, two: str) -> str | None:
+    """How the pictures of two proof sheets differ by more than one level, or None."""
+    first, second = PICTURE.findall(one), PICTURE.findall(two)
+    if len(first) != len(second):
+        return f"{len(first)} and {len(second)} pictures"
+    pairs = ((base64.b64decode(a), base64.b64decode(b)) for a, b in zip(first, second) if a != b)
+    return next(filter(None, (pictures_differ(*pair) for pair in pairs)), None)
 
 
-def data_differ(one: Any, two: Any) -> str | None:
-    """How two texts of JSON differ, or None: that the second one has more keys is said with their names."""
-    both = isinstance(one, dict) and isinstance(two, dict)
-    more = sorted(two.keys() - one.keys()) if both else []
-    if both and one == {key: value for key, value in two.items() if key not in more}:
-        return f"only the second has {', '.join(more)}" if more else None
-    return None if one == two else "text"
+def flat(name: str, value: Any) -> Iterator[str]:
+    """A text of JSON as lines, of each value the keys that lead to it."""
+    for key, one in value.items() if isinstance(value, dict) else enumerate(value) if isinstance(value, list) else ():
+        yield from flat(f"{name}.{key}" if name else str(key), one)
+    if not isinstance(value, (dict, list)):
+        yield f"{name}: {value}"
 
 
-def files_differ(one: Path, two: Path) -> str | None:
-    """How two files of page folders differ, or None."""
+def lines_of(path: Path) -> list[str]:
+    """The lines of a text file; of a proof sheet its tags with what follows each, of JSON its values."""
+    text = path.read_text(errors="surrogateescape")
+    if path.suffix == ".json":
+        return list(flat("", json.loads(text)))
+    if is_sheet(path):
+        sheet = PICTURE.sub("PICTURE", text)
+        text = re.sub("(?=<)", "\n", without_added(sheet) if ASIDE.counts is not None else sheet)
+    if ASIDE.counts is not None and (is_sheet(path) or path.name == "page.job"):
+        text = respelled(text)
+    return [line for line in text_of(text).splitlines() if line or not is_sheet(path)]
+
+
+def is_sheet(path: Path) -> bool:
+    """Whether a file is a proof sheet or a part of one."""
+    return path.suffix == ".html" or path.name == "proof.part"
+
+
+def texts_differ(what: str, one: list[str], two: list[str]) -> Iterator[str]:
+    """The lines that one of two texts has and the other has not; or that their order is another one."""
+    first, second = ([rewritten(f"{what}: {line}") if ASIDE.counts is not None else f"{what}: {line}" for line in lines]
+                     for lines in (one, two))
+    lost, more = (list((collections.Counter(a) - collections.Counter(b)).elements()) for a, b in ((first, second), (second, first)))
+    yield from (f"only the first has {line}" for line in lost if not ASIDE.takes(line))
+    yield from (f"only the second has {line}" for line in more if not ASIDE.takes(line))
+    if not lost and not more and first != second:
+        yield f"{what}: another order"
+
+
+class Aside:
+    """The differences that were asked for, counted by their reason; or none, if they are not left aside."""
+
+    counts: collections.Counter[str] | None = None
+
+    def takes(self, line: str) -> bool:
+        """Whether a line or a file that one commit alone has was asked for."""
+        why = why_added(line) if self.counts is not None else None
+        if why and self.counts is not None:
+            self.counts[why] += 1
+        return bool(why)
+
+
+ASIDE = Aside()
+
+
+def files_differ(name: str, one: Path, two: Path) -> Iterator[str]:
+    """How two files of page folders differ."""
+    found: str | None = None
     if one.suffix == ".tif":
-        return tiffs_differ(one, two)
-    if one.suffix == ".png":
-        return pictures_differ(one.read_bytes(), two.read_bytes())
-    if one.suffix == ".html" or one.name == "proof.part":
-        return sheets_differ(one.read_text(), two.read_text())
-    if one.suffix == ".json":
-        return data_differ(*(json.loads(path.read_text(errors="surrogateescape")) for path in (one, two)))
-    if one.suffix == ".pgm":
-        return None if one.read_bytes() == two.read_bytes() else "bytes"
-    texts = [text_of(path.read_text(errors="surrogateescape")) for path in (one, two)]
-    return None if texts[0] == texts[1] else "text"
+        found = tiffs_differ(one, two)
+    elif one.suffix == ".png":
+        found = pictures_differ(one.read_bytes(), two.read_bytes())
+    elif one.suffix == ".pgm":
+        found = None if one.read_bytes() == two.read_bytes() else "bytes"
+    else:
+        yield from texts_differ(name, lines_of(one), lines_of(two))
+        if is_sheet(one):
+            found = sheet_pictures_differ(one.read_text(errors="replace"), two.read_text(errors="replace"))
+    if found:
+        yield f"{name}: {found}"
 
 
 def folders_differ(one: Path, two: Path, aside: list[str]) -> Iterator[str]:
     """How what two runs made differs, but for files of some names."""
     first, second = ({str(path.relative_to(place)) for path in place.rglob("*") if path.is_file() and path.name not in aside}
                      for place in (one, two))
-    for name in sorted(first ^ second):
-        yield f"{name}: only {'the first' if name in first else 'the second'} commit has it"
+    yield from (f"{name}: only the first commit has it" for name in sorted(first - second))
+    yield from (f"{name}: only the second commit has it" for name in sorted(second - first) if not ASIDE.takes(name))
     for name in sorted(first & second):
-        found = files_differ(one / name, two / name)
-        if found:
-            yield f"{name}: {found}"
-
-
-def lines_differ(what: str, one: str, two: str) -> Iterator[str]:
-    """The lines that one of two printed texts has and the other has not. Pages may end in another order."""
-    first, second = sorted(text_of(one).splitlines()), sorted(text_of(two).splitlines())
-    if first != second:
-        yield from (f"{what}: only the first prints: {line}" for line in first if line not in second)
-        yield from (f"{what}: only the second prints: {line}" for line in second if line not in first)
+        yield from files_differ(name, one / name, two / name)
 
 
 class Commit:
@@ -186,8 +222,9 @@ def programs() -> Path:
 
 def compare(name: str, inputs: Path, commits: tuple[Commit, Commit], options: argparse.Namespace) -> list[str]:
     """How the commits differ on a file."""
-    found = []
-    for command, words in (("check", ["--dpi", options.dpi, *options.both]), ("all", ["--dpi", options.dpi, *options.both, "--look"])):
+    found: list[str] = []
+    both = ["--dpi", options.dpi, *options.both, *(OPTIONS.get(name, []) if options.asked else [])]
+    for command, words in (("check", both), ("all", [*both, "--look"])):
         ends = []
         for commit, own in zip(commits, ([], options.two_options + options.two_all * (command == "all"))):
             place = [os.path.relpath(commit.out / name, inputs)] if command == "all" else []
@@ -197,9 +234,15 @@ def compare(name: str, inputs: Path, commits: tuple[Commit, Commit], options: ar
         one, two = ends
         if one.returncode != two.returncode:
             found.append(f"{command}: status {one.returncode} and {two.returncode}: {one.stderr[-300:]} {two.stderr[-300:]}")
-        found += lines_differ(f"{command}: standard output", one.stdout, two.stdout)
-        found += lines_differ(f"{command}: standard error", one.stderr, two.stderr)
-    return found + list(folders_differ(commits[0].out / name, commits[1].out / name, options.aside))
+        for first, second in ((one.stdout, two.stdout), (one.stderr, two.stderr)):
+            # Pages may end in another order.
+            lines = [sorted(text_of(text).splitlines()) for text in (first, second)]
+            found += [f"{command}: {line}" for line in texts_differ("printed", *lines)]
+    found += folders_differ(commits[0].out / name, commits[1].out / name, options.aside)
+    if ASIDE.counts is None or name not in FILES:
+        return found
+    ASIDE.counts[FILES[name]] += len(found)
+    return []
 
 
 def write_inputs(folder: Path, options: argparse.Namespace) -> list[str]:
@@ -230,6 +273,7 @@ def parsed() -> argparse.Namespace:
     parser.add_argument("--two", action="append", dest="two_options", default=[])
     parser.add_argument("--two-all", action="append", default=[])
     parser.add_argument("--aside", action="append", default=[])
+    parser.add_argument("--asked", action="store_true")
     parser.add_argument("--keep", type=Path)
     for name in ("--small", "--hostile", "--inputs"):
         parser.add_argument(name, action="store_true")
@@ -239,6 +283,7 @@ def parsed() -> argparse.Namespace:
 def main() -> int:
     """Compares the commits, and answers 1 where they differ."""
     options = parsed()
+    ASIDE.counts = collections.Counter() if options.asked else None
     different = 0
     with tempfile.TemporaryDirectory(prefix="compare-") as scratch:
         place = options.keep.resolve() if options.keep else Path(scratch)
@@ -256,6 +301,8 @@ def main() -> int:
         finally:
             for commit in commits:
                 commit.remove()
+    for why, count in (ASIDE.counts or {}).items():
+        print(f"asked for: {why}: {count} lines and files")
     print(f"{len(names)} files, {different} differ")
     return 1 if different else 0
 
