@@ -73,9 +73,11 @@ class LivePage:
         Raises trapping.Refusal if the job has a fault.
         """
         planes = self.planes
-        out = [np.array(plane[top:top + height, left:left + width], self.kind) for plane in planes]
         if not self.inked or not width or not height:
-            return out
+            return [np.array(plane[top:top + height, left:left + width], self.kind) for plane in planes]
+        # The threads fill the plates with ink.
+        out = [np.empty((height, width), self.kind) if k in self.inked
+               else np.array(plane[top:top + height, left:left + width], self.kind) for k, plane in enumerate(planes)]
         wanted = Wanted(job, trapping.halo(job), planes, (left, top, width), out)
         bands = max(1, min(THREADS, height // SMALLEST_BAND))
         cuts = [height * k // bands for k in range(bands + 1)]
