@@ -7,9 +7,9 @@ tests and on the hostile ones, and compares statuses, printed lines, and each fi
 reports and texts byte for byte, TIFF files by their samples and tags, pictures within one level. What differs is printed, and
 the status is 1 then. Times and sizes on the disk in printed lines are left aside, and so is how a TIFF file is laid out.
 
-  --dpi N       the resolution, 72 where it is left out
+  --dpi N       the resolution, 72 if it is left out
   --only TEXT   the files alone whose names have this text in them; it may be given several times
-  --small, --hostile, --inputs   these files alone; all where none of these options is given
+  --small, --hostile, --inputs   these files alone; all if none of these options is given
   --both OPTION an option that both commits are given, --both=--width=2pt say; it may be given several times
   --two OPTION  the same for the second commit alone, --two=--no-thin-zones say, by which it does what the first one does
   --two-all OPTION   the same for its press/all alone, --two-all=--composite say, which press/check does not have

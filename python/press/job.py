@@ -141,17 +141,17 @@ class Reading:
         """The zones that it makes, or the one of the whole page where it makes none."""
         return self.made or [self.last]
 
-    def judge(self, value: Node, known: Keys, place: str) -> None:
+    def check(self, value: Node, known: Keys, place: str) -> None:
         """Notes the keys of a dictionary, and of those in it, that are not known."""
         for key, at, body in pairs_of(value):
             if key in known or ANY in known:
-                self.judge(body, known.get(key) or known.get(ANY) or {}, key if key in known else place)
+                self.check(body, known.get(key) or known.get(ANY) or {}, key if key in known else place)
             elif known:
                 self.strangers.append(Stranger(at, key, list(known), place))
 
     def parameters(self, value: Node) -> None:
         """What a dictionary before settrapparams makes of the parameters that hold."""
-        self.judge(value, {**{key: {} for key in tables.parameters()}, **LIMITS}, "settrapparams")
+        self.check(value, {**{key: {} for key in tables.parameters()}, **LIMITS}, "settrapparams")
         names = {"TrapWidth": "width", "BlackWidth": "black", "SlidingTrapLimit": "slide"}
         for key, _, body in pairs_of(value):
             if key in names and isinstance(body, Token):
@@ -215,7 +215,7 @@ def read(text: bytes) -> Reading:
         if value.text == "settrapparams" and operands:
             reading.parameters(operands[-1])
         elif value.text == "setpagedevice" and operands:
-            reading.judge(operands[-1], DEVICE, "setpagedevice")
+            reading.check(operands[-1], DEVICE, "setpagedevice")
         elif value.text == "settrapzone":
             reading.made.append(reading.last)
         operands = []
