@@ -43,6 +43,7 @@ COMMANDS := preflight check plates zones trap tiff pdf screen look proof all com
 PACKAGE := $(shell find python/press python/trapping -type d ! -name __pycache__)
 LIBRARY := library/out/libtrap.so.1 library/out/libtrap.a
 PAGES1 := $(wildcard man/*.1)
+PAGES3 := $(wildcard man/*.3)
 PAGES5 := $(wildcard man/*.5)
 PAGES7 := $(wildcard man/*.7)
 COMPLETIONS := $(wildcard press/completion/*)
@@ -108,8 +109,10 @@ install-headers: library
 	$(INSTALL_DATA) library/out/trap-config.cmake library/out/trap-config-version.cmake $(DESTDIR)$(cmakedir)
 
 install-manuals:
-	$(INSTALL) -d $(DESTDIR)$(mandir)/man1 $(DESTDIR)$(mandir)/man5 $(DESTDIR)$(mandir)/man7 $(DESTDIR)$(docdir)
+	$(INSTALL) -d $(DESTDIR)$(mandir)/man1 $(DESTDIR)$(mandir)/man3 $(DESTDIR)$(mandir)/man5 $(DESTDIR)$(mandir)/man7 \
+	  $(DESTDIR)$(docdir)
 	$(INSTALL_DATA) $(PAGES1) $(DESTDIR)$(mandir)/man1
+	$(INSTALL_DATA) $(PAGES3) $(DESTDIR)$(mandir)/man3
 	$(INSTALL_DATA) $(PAGES5) $(DESTDIR)$(mandir)/man5
 	$(if $(PAGES7),$(INSTALL_DATA) $(PAGES7) $(DESTDIR)$(mandir)/man7)
 	$(INSTALL_DATA) $(DOCUMENTS) $(DESTDIR)$(docdir)
@@ -119,6 +122,7 @@ uninstall:
 	rm -rf $(DESTDIR)$(OWN) $(DESTDIR)$(docdir) $(DESTDIR)$(cmakedir)
 	rm -f $(DESTDIR)$(libdir)/libtrap.so.1 $(DESTDIR)$(libdir)/libtrap.so $(DESTDIR)$(libdir)/libtrap.a
 	rm -f $(DESTDIR)$(pkgconfigdir)/trap.pc $(DESTDIR)$(includedir)/trap.h
+	rm -f $(PAGES3:man/%=$(DESTDIR)$(mandir)/man3/%)
 	rm -f $(PAGES1:man/%=$(DESTDIR)$(mandir)/man1/%) $(PAGES5:man/%=$(DESTDIR)$(mandir)/man5/%) $(PAGES7:man/%=$(DESTDIR)$(mandir)/man7/%)
 	rm -f $(COMPLETIONS:press/completion/%=$(DESTDIR)$(completiondir)/%)
 

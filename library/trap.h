@@ -37,7 +37,7 @@ typedef uint8_t trap_status;
 
 #define LIBTRAP_MOST_PLANES 16
 #define LIBTRAP_MOST_SIDE 16384
-#define LIBTRAP_MOST_SAMPLES 160000000 /* width * height of one plane; all planes of a page together too, see docs/LIBRARY.md */
+#define LIBTRAP_MOST_SAMPLES 160000000 /* names * width * height: of all planes of a page or of a window together */
 #define LIBTRAP_MOST_SHEET_SIDE 262144
 
 /* trap_planes8, trap_planes16: trap the planes of a page, of samples of one byte or of two in the machine's order.
@@ -45,12 +45,13 @@ typedef uint8_t trap_status;
  *   job, job_size       the bytes of the job: inks, zones and trapping parameters (docs/JOBS.md); read, never written. At most 1,048,576 bytes.
  *   names, names_size   the names of the planes' colorants as in the job, with an LF between two and none at the end:
  *                       "Cyan\nMagenta\nYellow\nBlack". 1 to 16 names, none twice, each of 1 to 64 bytes from 33 to 126
- *                       without ( ) < > [ ] { } / and %.
+ *                       without ( ) < > [ ] { } / and %. Replace other bytes in the same way in the job and here.
  *   samples             the planes, one after the other in the order of the names, each row by row from the top, each row from
  *                       the left. 0 is no ink, maxval is full ink. The trapped planes replace them.
  *   sample_count        the number of samples, not bytes: names * height * step.
- *   width, height       the sides of the page in samples, 1 to 16,384 each, with at most 160,000,000 pixels.
- *   step                the distance from the start of a row to that of the next in samples, at least width. The padding
+ *   width, height       the sides of the page in samples, 1 to 16,384 each. All planes together have at most 160,000,000 samples:
+ *                       A4 at 600 dpi in four inks, not in five. Trap anything larger by trap_window8 or trap_window16.
+ *   step                the stride: the distance from the start of a row to that of the next in samples, at least width. The padding
  *                       between rows may be anything, and is not changed.
  *   maxval              the tint of full ink: 1 to 255 for trap_planes8, 1 to 65,535 for trap_planes16. A sample above it is
  *                       refused.
@@ -90,7 +91,8 @@ struct trap_place {
 /* trap_halo: the rows and columns that a window needs around its core, on each side that is not a border of the sheet.
  *
  *   job, job_size       the bytes of the job, as above.
- *   halo                is set to that number: how far the job's widest trap reaches, rounded up to whole samples, and 1 at least.
+ *   halo                is set to that number. Do not compute it: it is the reach of the job's widest trap, rounded to the nearest
+ *                       whole number of samples, and 1 at least.
  *   text, text_size, text_len   as above. The text is empty, or the error line.
  *
  * Returns LIBTRAP_DONE; or LIBTRAP_JOB or LIBTRAP_MEMORY, and *halo is not changed. A number above 128 is returned only for a job whose
@@ -105,9 +107,9 @@ trap_status trap_halo(const char *job, size_t job_size, uint32_t *halo,
  * window's. The place must be valid:
  *   - The window is on the sheet, and the core in the window.
  *   - On each side that is not a border of the sheet, the window extends at least trap_halo samples beyond its core.
- *   - If the job has zones (settrapzone, with a path or without), the window's left side is a multiple of a step from the sheet's
- *     left side, and its lower side a multiple of it from the sheet's lower side. The step is resolution / gcd(resolution,
- *     720000) samples: 1 at most common resolutions (72, 96, 150, 300, 600, 1200, 2400), and 127 at 2540.
+ *   - If the job has zones (settrapzone, with a path or without), the window's left and lower sides lie on a grid, which is
+ *     counted from the sheet's lower left corner. Its lines are resolution / gcd(resolution, 720000) samples apart: 1 at most
+ *     common resolutions (72, 96, 150, 300, 600, 1200, 2400), and 127 at 2540.
  *
  * A core without rows or columns traps nothing.
  *
@@ -118,7 +120,8 @@ trap_status trap_halo(const char *job, size_t job_size, uint32_t *halo,
  * left corner, in x or in y.
  *
  * The halo must have untrapped samples: if windows of one raster overlap, copy what a window needs before you trap a neighbour,
- * as examples/library/tiles.c does.
+ * as examples/library/tiles.c and bands.c do. The planes of a window lie height * step samples apart, so a window of a raster of
+ * several planes is always a copy.
  */
 trap_status trap_window8(const char *job, size_t job_size, const char *names, size_t names_size,
                          uint8_t *samples, size_t sample_count,

@@ -8,7 +8,7 @@ from room import TOP
 
 DOCUMENTS = sorted(str(path.relative_to(TOP)) for pattern in ("README.md", "docs/*.md", "python/README.md", "examples/*/README.md")
                    for path in TOP.glob(pattern))
-PAGES = sorted(str(path.relative_to(TOP)) for path in TOP.glob("man/*.[157]"))
+PAGES = sorted(str(path.relative_to(TOP)) for path in TOP.glob("man/*.[1357]"))
 FENCE = re.compile(r"^```(\w*)\n(.*?)^```$", re.M | re.S)
 INDENTED = re.compile(r"(?:^|\n)\n((?:    .*\n|\n(?=    ))+)")
 LIST = re.compile(r"^\s*(?:[-*]|\d+\.) ")

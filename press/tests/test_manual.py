@@ -34,7 +34,7 @@ def test_options_stand_in_the_page(room: Room, command: str) -> None:
 
 @pytest.mark.plain
 @needs("mandoc")
-@pytest.mark.parametrize("page", sorted(path.name for path in (TOP / "man").glob("*.[15]")))
+@pytest.mark.parametrize("page", sorted(path.name for path in (TOP / "man").glob("*.[1357]")))
 def test_pages_lint(page: str) -> None:
     """mandoc finds nothing wrong."""
     done = subprocess.run(["mandoc", "-Tlint", page], cwd=TOP / "man", capture_output=True, text=True, check=False)
@@ -47,3 +47,18 @@ def test_pages_are_made(room: Room) -> None:
     """tools/pages has nothing to make anew."""
     done = room.run(Path(TOP / "tools" / "pages"), "--check")
     assert done.status == 0, done
+
+
+@pytest.mark.plain
+def test_functions_are_those_of_the_header() -> None:
+    """libtrap(3) has the functions of trap.h, with their types and arguments."""
+    page = (TOP / "man" / "libtrap.3").read_text(encoding="utf-8")
+    header = re.sub(r"/\*.*?\*/", "", (TOP / "library" / "trap.h").read_text(encoding="utf-8"), flags=re.S)
+    declared = {name: (kind, [" ".join(one.split()) for one in arguments.split(",")]) for kind, name, arguments in
+                re.findall(r"^(?:static inline )?([a-z_0-9]+|const char \*) ?(trap_\w+)\(([^)]*)\)(?:;| \{)", header, re.M)}
+    shown = {name: (kind.strip('"'), re.findall(r'^\.Fa "(.*)"$', arguments, re.M))
+             for kind, name, arguments in re.findall(r"^\.Ft (.*)\n\.Fo (\w+)\n((?:\.Fa .*\n)+)\.Fc$", page, re.M)}
+    shown |= {name: (kind.strip('"'), [arguments.strip('"')])
+              for kind, name, arguments in re.findall(r"^\.Ft (.*)\n\.Fn (\w+) (.*)$", page, re.M)}
+    assert shown == declared and len(shown) == 8
+    assert set(re.findall(r"^\.Nm (\w+)", page, re.M)) == set(declared)
