@@ -45,6 +45,8 @@ CHANGES = (
         (r"Ghostscript cannot read it: Ghostscript ended with 255|the page takes about [\d.]+ .B of disk, and there are [\d.]+ .B", "NO ROOM"),)),
     Asked("pikepdf says what a PDF has of its pages, and nothing of one whose tree of pages is a ring", added=(
         r"printed: ring\.pdf: page 1: 120 by 48 samples, .*",)),
+    Asked("the three pictures of a page are one step, which is printed once", added=(
+        r"printed: press-all: .*: page \d+ of \d+: pictures",)),
     Asked("a job has a record", added=(r"(.*/)?job\.json",)),
     Asked("zones are composed, and what lies above images is trapped", added=(
         r"(.*/)?zones\.json", r".*/report\.json: layout\.untrapped\.\w+: [\d.]+"), spelled=(
