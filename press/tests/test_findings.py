@@ -5,7 +5,7 @@ import pickle
 import pytest
 
 from press.errors import PressError, Status, UsageError
-from press.findings import FAULT, NOTE, WARNING, Finding, lines_of, page_ranges, refusal_for
+from press.findings import FAULT, NOTE, WARNING, Finding, lines_of, page_ranges, percent, refusal_for, remedy
 
 pytestmark = pytest.mark.quick
 FONT = "the PDF lacks the font"
@@ -21,6 +21,12 @@ def test_lines_of_several_pages() -> None:
     """A finding of several pages is one line; one of the whole file names no page."""
     found = [Finding("font", WARNING, page, FONT) for page in (1, 2, 4)] + [Finding("blank", NOTE, 3, "blank"), Finding("box", NOTE, None, "x")]
     assert list(lines_of("a.pdf", found)) == [f"a.pdf: pages 1-2, 4: warning: font: {FONT}", "a.pdf: page 3: note: blank: blank", "a.pdf: note: box: x"]
+
+
+def test_figures_of_texts() -> None:
+    """A share that rounds to nothing, and a resolution above a platesetter's, are no help to an operator."""
+    assert [percent(share) for share in (0.0009, 0.01, 0.256)] == ["less than 1%", "1%", "26%"]
+    assert [remedy(dpi) for dpi in (2500, 2600)] == ["2500 dpi would do", "thicken them, or let them overprint"]
 
 
 def test_refusals() -> None:

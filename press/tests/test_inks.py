@@ -24,7 +24,7 @@ def test_warnings_of_inks(room: Room) -> None:
     room.sample("two.pdf")
     told = room.goes("plates", "two.pdf", "inks", "--kind", "Silver=Transparent").err
     assert "no colorant of the file is called Silver" in told
-    assert len(re.findall("Warm Red is not told; 0.98 is a guess", told)) == 1
+    assert len(re.findall("Warm Red is not told; 0.98 is a guess: add a line to NAME.inks or house.inks, or give --density", told)) == 1
     assert len(re.findall("Gold Foil is a technical ink by its name, and is taken as OpaqueIgnore", told)) == 1
 
 
@@ -46,7 +46,7 @@ def test_findings_of_technical_inks(room: Room) -> None:
     room.sample("technical.pdf")
     told = room.goes("preflight", "technical.pdf").out
     for line in ("warning: ink-kind: CutContour is a technical ink by its name, and is taken as Transparent",
-                 "warning: knock-out: CutContour .* knocks out", "warning: ink-kind: UV-Lack .* Transparent",
+                 "warning: knock-out: CutContour knocks out the colours below it: set it to overprint .* gets no trap", "warning: ink-kind: UV-Lack .* Transparent",
                  r"note: ink-library: the density of PANTONE Reflex Blue C is 1\.64 by press/inks/spots\.inks, line [0-9]+: look"):
         assert re.search(line, told), f"no {line} in {told}"
 

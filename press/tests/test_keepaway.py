@@ -6,7 +6,7 @@ from typing import Any
 
 import numpy as np
 import pytest
-from press import engine, keepaway
+from press import engine, keepaway, proof
 from press.errors import PressError
 from press.folder import PageFolder, PageSource, write_table
 from press.inks import Ink
@@ -102,6 +102,16 @@ def test_inks_are_drawn_back_under_black(tmp_path: Path) -> None:
     changed = 28 * 28 - 24 * 24
     said = {"width": 0.2268, "rich_black": {"covered": 28 * 28, "changed": {"Cyan": changed, "Magenta": 0}}}
     assert report_of(page) == said and read_record(page.path)["pages"]["1"]["keepaway"] == said
+    assert proof.keepaway_text(page) == f"<p>Drawn back by 0.23 pt under rich black: Cyan on {changed} pixels.</p>"
+
+
+def test_the_proof_of_thin_strokes(tmp_path: Path) -> None:
+    """The proof says that traps are narrower at thin strokes, if the page has any; nothing of keepaway before the page is trapped."""
+    page = rich_page(tmp_path / "page")
+    for zones, text in ((0, ""), (2, " Small type and thin lines have narrower ones.")):
+        (tmp_path / "page/zones.json").write_text(json.dumps({"thin": {"zones": zones}}))
+        assert proof.narrower_text(page) == text
+    assert proof.keepaway_text(page) == ""
 
 
 def test_pages_without_rich_black_are_not_touched(tmp_path: Path, programs: Path, monkeypatch: pytest.MonkeyPatch) -> None:

@@ -6,10 +6,11 @@ from pathlib import Path
 import numpy as np
 import pytest
 
+from press import zones
 from press.errors import UsageError
 from press.inks import InkBook, Separation
 from press.job_language import read_job
-from press.layout import lay_out, layer_entries, layer_lines, pictures_alone, trap_box, usual_box
+from press.layout import Layout, lay_out, layer_entries, layer_lines, pictures_alone, trap_box, usual_box
 from press.marks import Mark, above, outline_of
 from press.plates import Plates
 from press.rects import Rect
@@ -165,6 +166,13 @@ def test_a_page_with_a_thin_line(maxval: int, tmp_path: Path) -> None:
     assert told["lines"] == 1 and len(told["places"]) == 1
     assert not lay_out([], None, None, plates, inks, settings.but(thin_zones=False)).statements
     assert not list(layout.findings(1, 600))
+
+
+def test_what_is_not_trapped_is_named() -> None:
+    """The box that holds traps by its name, and no share below half a per cent."""
+    shares = ((zones.TRIM, 0.221), (zones.IMAGES, 0.03), (zones.LAYERS, 0.001))
+    assert Layout((), untrapped=shares).untrapped_line("bleed") == \
+        "25% of the page is not trapped: 22% outside the bleed box, 3% images (--trap-images)"
 
 
 def test_specks_have_zones_and_are_not_reported() -> None:

@@ -511,6 +511,9 @@ def test_the_whole_way(room: Room) -> None:
     assert done.status == 1 and "no trapped PDF: locked.pdf: encrypted" in done.err, done
     assert (room / "two" / "page-001" / "trapped" / "report").exists() and not (room / "two" / "locked-trapped.pdf").exists()
     room.refused(2, ".*--pdf and --tiff-only do not go together.*", "all", "pair.pdf", "three", "--pdf", "--tiff-only")
+    room.sample("two.pdf")
+    room.refused(2, ".*a trapped PDF keeps all inks of the PDF, and Gold Foil would be .*", "all", "two.pdf", "four", "--pdf", "--drop", "Gold Foil")
+    assert not (room / "four").exists()
 
 
 @pytest.mark.parametrize("words, why", [

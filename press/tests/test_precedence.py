@@ -3,13 +3,14 @@
 lost."""
 from collections.abc import Sequence
 from pathlib import Path
+from typing import Any
 
 import pytest
 from press import owner_files, pairs, precedence
 from press.inks import InkBook, Separation
 from press.job import Statement
 from press.job_language import Parameters, read_job
-from press.page import edits_of, lost_edits
+from press.page import edits_of, lost_edits, pdf_line
 from press.settings import PRESETS, Settings, parameters
 from room import TOP, Room
 
@@ -149,6 +150,19 @@ def test_what_becomes_of_plates(tmp_path: Path, house: Path, option: dict[str, t
     edits = edits_of(Settings(**option), book)
     assert edits.inks == {b"die"}
     assert "rename=Outline of Die in the tables gives way to the options for die" in list(lost_edits(Settings(**option), book))
+
+
+@pytest.mark.parametrize("option", [{"merge": ("die=Cut",)}, {"rename": ("die=Cut",)}, {"to_process": ("die",)}, {"drop": ("die",)},
+                                    {"merge_suffixes": True}, {}])
+def test_no_trapped_pdf_of_edited_inks(tmp_path: Path, option: dict[str, Any]) -> None:
+    """An edit of an ink of the file by an option or a table refuses a trapped PDF, and one of an ink that it does not have does not."""
+    table = None if option else str(tmp_path / "a.inks")
+    (tmp_path / "a.inks").write_text("Die\t-\t-\tdrop\n")
+    settings, spots = Settings(**option), (b"Die", b"PANTONE 485 C", b"PANTONE 485 CVC")
+    book = InkBook(settings, table)
+    name = "PANTONE 485 CVC" if "merge_suffixes" in option else "Die"
+    assert f"PDF, and {name} would be merged" in (pdf_line(settings.but(pdf=True), book, spots) or "")
+    assert pdf_line(settings, book, spots) is None and pdf_line(settings.but(pdf=True), book, (b"Gold", b"PANTONE 485 C")) is None
 
 
 # Files

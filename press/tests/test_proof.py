@@ -13,7 +13,7 @@ import pytest
 from PIL import Image
 from room import LABEL, Room, needs
 
-PARTS = ("Proof of pair.pdf", 'class="slider"', "Out of register", "still bares", "<h3>Inks", "<h3>The job", "TrapWidth 0.2835",
+PARTS = ("Proof of pair.pdf", 'class="slider"', "Out of register", "Where gaps can still open", "<h3>Inks", "<h3>The job", "TrapWidth 0.2835",
          "data:image/png;base64,")
 CHROMIUM = ("chromium", "--headless", "--no-sandbox", "--disable-gpu", "--virtual-time-budget=8000", "--dump-dom")
 BROWSER_STARTS, BROWSER_SECONDS = 3, 300

@@ -242,7 +242,7 @@ def test_warnings_refuse_a_file(room: Room, hot: Hot) -> None:
     hot.wait(1)
     hot.stop()
     why = (hot.folder / "failed/damaged/why.txt").read_text()
-    assert re.search(r"damaged\.pdf: .*Ghostscript finds faults .* \(--strict\)$", why), why
+    assert re.search(r"damaged\.pdf: .*Ghostscript finds faults .* \(a warning, and --lenient is not given\)$", why), why
 
 
 def test_slow_writer_and_moved_file(room: Room, hot: Hot) -> None:

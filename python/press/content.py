@@ -14,7 +14,7 @@ import numpy
 import pikepdf
 
 from .crew import ALONE, Crew
-from .findings import NOTE, WARNING, Finding
+from .findings import NOTE, WARNING, Finding, remedy
 from .icc import read_profile
 from .images import moved_to_page
 from .inks import Ink
@@ -240,7 +240,7 @@ def type_findings(trace: Trace, info: PageInfo, settings: Settings, page: int) -
         enough = math.ceil(LEAST_PIXELS * 72 / (STEM * smallest.size) / 100) * 100
         yield placed("thin-strokes", page, on_page(smallest.box, info, settings), f"coloured type of "
                      f"{smallest.size:.1f} pt {AT} has strokes of about {stroke:.1f} pixels at {settings.dpi} dpi: "
-                     f"traps take its colour or leave gaps ({enough} dpi would do)")
+                     f"traps take its colour or leave gaps ({remedy(enough)})")
 
 
 def is_plain_black(space: str, colour: Sequence[float]) -> bool:

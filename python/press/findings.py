@@ -7,6 +7,8 @@ from typing import Any
 from .errors import PressError, Status
 
 FAULT, WARNING, NOTE = "fault", "warning", "note"
+# The resolution of a common platesetter: no more is advised.
+MOST_DPI = 2540
 
 
 @dataclass(frozen=True)
@@ -54,6 +56,16 @@ def lines_of(path: str, findings: Iterable[Finding]) -> Iterator[str]:
         several = "pages" if len(pages) > 1 else "page"
         where = f"{path}: {several} {page_ranges(numbers)}: " if len(numbers) == len(pages) else f"{path}: "
         yield f"{where}{level}: {kind}: {text}"
+
+
+def percent(share: float) -> str:
+    """A share of the page in whole per cent."""
+    return f"{100 * share:.0f}%" if share >= 0.01 else "less than 1%"
+
+
+def remedy(enough: int) -> str:
+    """What helps strokes that are too thin for a trap: so many dpi, unless no platesetter has them."""
+    return f"{enough} dpi would do" if enough <= MOST_DPI else "thicken them, or let them overprint"
 
 
 def place_of(path: str, one: Finding) -> str | None:

@@ -3,7 +3,7 @@
 
 Each plate may be off by a radius of samples in both directions, each its own way. At a sample the worst that can come
 of it is that each plate has its least ink within the radius. It counts as a gap if the density of that is less than
-that of every sample within the radius in register, by more than a margin: a white or a light seam between two
+that of every sample within the radius in register, by more than a margin: a white or a light gap between two
 colours. The edge of a shape on unprinted paper is not a gap, since paper lies next to it in register too.
 """
 from collections.abc import Callable, Iterator, Sequence

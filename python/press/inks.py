@@ -419,6 +419,10 @@ def first_of(ranks: Sequence[tuple[str, Sequence[Known | None]]], figure: str) -
     return None
 
 
+# How the owner gives a figure of an ink; the option follows.
+HOW = "add a line to NAME.inks or house.inks, or give"
+
+
 def unsure_lines(ink: Ink) -> Iterator[tuple[str, str, str]]:
     """What has to be said of an ink of which the owner did not give everything: the kind of a finding, its
     level, and the text."""
@@ -428,17 +432,17 @@ def unsure_lines(ink: Ink) -> Iterator[tuple[str, str, str]]:
     if ink.kind_from.rank == "name":
         with_density = f" with a density of {ink.density}" if ink.role in ROLES_OF_KINDS else ""
         yield "ink-kind", "warning", (f"{called} is {ROLE_NAMES.get(ink.role, 'a technical ink')} by its name, and is "
-                                      f"taken as {ink.kind}{with_density} ({ink.kind_from.text}): say --kind {word}, "
-                                      f"or a line of --inks")
+                                      f"taken as {ink.kind}{with_density} ({ink.kind_from.text}): {HOW} --kind {word}")
     elif ink.kind_from.rank == "library" and ink.kind != "Normal":
-        yield "ink-kind", "warning", f"{called} is taken as {ink.kind} ({ink.kind_from.text}): say --kind {word}"
+        yield "ink-kind", "warning", (f"{called} is taken as {ink.kind} ({ink.kind_from.text}): {HOW} "
+                                      f"--kind {word}")
     if not ink.is_process and process_meant(ink.colorant):
         yield "process-name", "warning", (f"{called} is a spot with a plate of its own, and is called like a process "
                                           f"ink: is {process_meant(ink.colorant)} meant?")
     if not tables.counts(ink.kind):
         return
     if ink.density_from.rank == "guess":
-        yield "ink-density", "warning", (f"the density of {called} is not told; {ink.density} is a guess "
-                                         f"(tell it by --density or --inks)")
+        yield "ink-density", "warning", (f"the density of {called} is not told; {ink.density} is a guess: {HOW} "
+                                         f"--density")
     elif ink.density_from.rank == "library" and not ink.is_process:
         yield "ink-library", "note", f"the density of {called} is {ink.density} by {ink.density_from.text}"

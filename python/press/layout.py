@@ -16,7 +16,7 @@ import numpy
 from . import images, tables
 from .errors import UsageError
 from .files import named
-from .findings import NOTE, WARNING, Finding
+from .findings import NOTE, WARNING, Finding, remedy
 from .inks import Ink
 from .job import Statement, read_all
 from .job_language import KEYS, SCALE, Parameters
@@ -44,7 +44,7 @@ FindStrokes = Callable[..., list[Part]]
 MOST_HOLES = 200
 # From this share of a page on it is warned that it is not trapped.
 MUCH = 0.005
-REASONS = {IMAGES: "images (--trap-images)", TRIM: "outside the box of --trap-within", LAYERS: "layers (--layer)",
+REASONS = {IMAGES: "images (--trap-images)", TRIM: "outside the {} box", LAYERS: "layers (--layer)",
            OWNER: "the owner's zones (--zones)"}
 
 
@@ -83,15 +83,15 @@ class Layout:
             enough = math.ceil(SHARE * 72 / one.least / 100) * 100
             yield Finding("thin-strokes", NOTE, page, f"{one.too_thin} of {one.lines} lines of thin strokes are less "
                           f"than three pixels thick at {resolution} dpi, the thinnest {one.least:.2f} pt: a trap takes "
-                          f"all of their colour or leaves gaps at slanted edges ({enough} dpi would do)")
+                          f"all of their colour or leaves gaps at slanted edges ({remedy(enough)})")
 
-    def untrapped_line(self) -> str | None:
-        """How much of the page is not trapped, and why."""
+    def untrapped_line(self, box: str) -> str | None:
+        """How much of the page is not trapped, and why. Traps are kept within this box."""
         shares = [(reason, share) for reason, share in self.untrapped if share >= MUCH]
         if not shares:
             return None
         whole = 100 * sum(share for _, share in shares)
-        parts = ", ".join(f"{100 * share:.0f}% {REASONS[reason]}" for reason, share in shares)
+        parts = ", ".join(f"{100 * share:.0f}% {REASONS[reason].format(box)}" for reason, share in shares)
         return f"{whole:.0f}% of the page is not trapped: {parts}"
 
     def as_data(self) -> dict[str, Any]:

@@ -2,7 +2,7 @@
 """One page from a source: what is known of it once it is rendered, and the folder that is made of that."""
 import functools
 import os
-from collections.abc import Iterator
+from collections.abc import Iterator, Sequence
 from dataclasses import dataclass, field, replace
 from typing import Any
 
@@ -14,7 +14,7 @@ from .errors import UsageError
 from .files import named, size_text
 from .folder import JOB, TABLE, ZONES, PageFolder, PageSource, write_table
 from .icc import need_press_profile
-from .inkedits import InkEdits, edit_plates, pairs_of
+from .inkedits import InkEdits, edit_plates, pairs_of, same_swatches
 from .inks import Ink, InkBook, folded
 from .job_record import DONE, digest_of
 from .layout import FindStrokes, Layout, lay_out, trap_box
@@ -106,6 +106,16 @@ def lost_edits(settings: Settings, book: InkBook) -> Iterator[str]:
             shown = readable(own[folded(name)])
             yield f"{given} of {readable(name)} in the tables gives way to the options for {shown}"
     yield from book.lost_edits()
+
+
+def pdf_line(settings: Settings, book: InkBook, spots: Sequence[bytes]) -> str | None:
+    """Why a file with these spots gets no trapped PDF, if one is asked for: options or tables edit some of them."""
+    edits = edits_of(settings, book)
+    edited = {folded(name) for name in edits.inks}
+    twins = same_swatches(spots) if edits.merge_suffixes else {}
+    names = sorted({readable(name) for name in spots if folded(name) in edited or name in twins})
+    return f"a trapped PDF keeps all inks of the PDF, and {', '.join(names)} would be merged, renamed, dropped or " \
+           "turned into process inks: leave out --pdf, or change the PDF" if settings.pdf and names else None
 
 
 def layout_of(page: Page, settings: Settings) -> Layout:

@@ -15,13 +15,13 @@ from . import content, engine, files, images, job, owner_files, precedence, prog
 from .errors import PressError, Status
 from .fields import OF_FIELDS, fields_without_appearance
 from .files import BYTE_ORDER_MARK, bytes_of, free_room, scratch_folder, size_text
-from .findings import FAULT, NOTE, WARNING, Finding
+from .findings import FAULT, NOTE, WARNING, Finding, percent
 from .folder import PageSource
 from .inkedits import twins
 from .inks import Ink, InkBook, Separation, folded, open_book, unsure_lines
-from .layout import Layout, box_line, layer_lines
+from .layout import Layout, box_line, layer_lines, trap_box
 from .names import MOST_PLATES, PROCESS, job_names, readable
-from .page import Page, layout_of, lost_edits, option_edits, prepare, room_line
+from .page import Page, layout_of, lost_edits, option_edits, pdf_line, prepare, room_line
 from .pairs import pairs_file, read_pairs
 from .plates import LONGEST_SHEET_SIDE, LONGEST_SIDE, MOST_SAMPLES, Plates, thickened
 from .settings import Settings, house_file
@@ -124,6 +124,8 @@ def check_file(source: Source, settings: Settings, book: InkBook, pages: Sequenc
                              "the usual size"))
     for page in pages:
         found += size_findings(source, settings, page)
+    line = pdf_line(settings, book, [spot for info in map(source.page, pages) if info for spot in info.spots])
+    found += [Finding("trapped-pdf", FAULT, None, line, Status.USAGE)] if line else []
     found += owner_files.beside_findings(source.path, source.count, settings)
     found += statement_findings(source, settings, book, pages)
     found += stranger_findings(source, book, pages)
@@ -389,9 +391,9 @@ def knock_out_finding(ink: Ink, page: int) -> Finding:
     """That a technical ink knocks out what lies under it."""
     # An owner who gave the kind knows the ink, a foil on unprinted paper say.
     level = NOTE if ink.kind_from.rank in ("told", "house") else WARNING
-    meaning = "and is trapped as any other ink" if counts(ink.kind) else "and the hole's edge is not trapped"
-    return Finding("knock-out", level, page, f"{readable(ink.colorant)} is a technical ink by its name or kind, and "
-                   f"knocks out what lies under it, {meaning}: it should overprint where it is no ink on the sheet")
+    edge = "is trapped like that of any ink" if counts(ink.kind) else "gets no trap"
+    return Finding("knock-out", level, page, f"{readable(ink.colorant)} knocks out the colours below it: set it to "
+                   f"overprint if it is a die line; if it is foil or another ink on the sheet, this edge {edge}")
 
 
 def knocked_out(plates: Plates, technical: str, others: Sequence[str]) -> tuple[int, tuple[int, int]]:
@@ -463,7 +465,7 @@ def image_findings(page: Page, info: PageInfo, settings: Settings) -> Iterator[F
         count = "an image" if len(bounds) == 1 else f"{len(bounds)} images, the largest"
         above = "line work that lies over them neither"
         above = "but at type and line work above them" if settings.over_images else above
-        yield Finding("images", NOTE, page.number, f"{count} over {100 * largest:.0f}% of the page: within images "
+        yield Finding("images", NOTE, page.number, f"{count} over {percent(largest)} of the page: within images "
                       f"nothing is trapped, {above} (--trap-images traps there)")
 
 
@@ -487,6 +489,6 @@ def layout_findings(page: Page, info: PageInfo, settings: Settings, layout: Layo
     """How much of a page is not trapped, and why; boxes and layers of the options that it does not have."""
     lines = [box_line(info, settings), *(layer_lines(page.trace, settings) if page.trace else ())]
     yield from (Finding("trap-within", WARNING, page.number, line) for line in lines if line)
-    line = (layout or layout_of(page, settings.but(thin_zones=False))).untrapped_line()
+    line = (layout or layout_of(page, settings.but(thin_zones=False))).untrapped_line(trap_box(info, settings)[1])
     if line:
         yield Finding("not-trapped", NOTE, page.number, line)

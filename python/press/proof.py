@@ -8,7 +8,7 @@ from dataclasses import dataclass
 
 import numpy
 
-from . import gaps
+from . import gaps, keepaway
 from .changes import Changes, Found, Grid, changes_in, marked, small_places, together
 from .crew import ALONE, Crew
 from .engine import Report, read_report
@@ -112,7 +112,7 @@ def write_sheet(path: str, title: str, head: str, parts: Iterable[str]) -> None:
 
 @dataclass(frozen=True)
 class Seen:
-    """What is seen in some rows of a page: how many samples misregistration bares before trapping and after, the points
+    """What is seen in some rows of a page: on how many samples gaps open before trapping and after, the points
     of the small picture where a trap closes some and where some are left, and how many of these each part of the grid
     has; what trapping changed; and the rows of the small picture before and after."""
 
@@ -236,7 +236,8 @@ def page_text(page: PageFolder, crew: Crew = ALONE) -> str:
         f'<section class="page" id="page-{page.source.page}" data-changed="{report.changed}">', head,
         warnings_text(page.path), "<h3>Before and after</h3>", slider, register,
         f"<h3>Traps</h3><p>Where ink was added, thickened, in its colour: {legend or 'nowhere'}</p>"
-        f"{traps}", bare, f'<h3>Plates</h3><div class="plates">{"".join(plates)}</div>', "<h3>Inks</h3>", inks,
+        f"{traps}", keepaway_text(page), bare,
+        f'<h3>Plates</h3><div class="plates">{"".join(plates)}</div>', "<h3>Inks</h3>", inks,
         "<h3>Zones</h3>", zones, thin, coverage_text(page),
         f"<h3>The job</h3><pre>{escaped(read_text(page.file(JOB)))}</pre>", "</section>"])
 
@@ -276,14 +277,30 @@ def register_text(sheet: Sheet) -> str:
     data = {"lights": sheet.painter.lights, "margin": wide, "parts": [sheet.plate_parts(part, wide) for part in parts]}
     figures = "".join(f"<figure>{canvas(one)} {canvas(one)}<figcaption>{one[2]} by {one[3]} samples at {one[0]},"
                       f"{one[1]}: before on the left, after on the right</figcaption></figure>" for one in parts)
-    closed = (f"The narrowest traps here are {sheet.width:.2f} samples wide: so much is what they close."
-              if sheet.width else "No zone has a trap of a sample or more.")
+    closed = (f"The page's traps are {sheet.width:.2f} pixels wide: they close that much.{narrower_text(page)}"
+              if sheet.width else "No zone has a trap of a pixel or more.")
+    if any(ink.kind == "Opaque" and ink.has_ink for ink in page.inks):
+        closed += (" The pictures show opaque inks, such as silver, as if they were transparent: on press these hide "
+                   "the dark rims of their traps.")
     sliders = " ".join(f'<label>{name} <input class="{name}" type="range" min="{-wide}" max="{wide}" value="{value}">'
                        f"</label>" for name, value in (("across", most), ("down", 0)))
     return (f'<h3>Out of register</h3><p>{closed}</p><p class="controls"><label>Off: <select><option value="each">each '
             f'plate its own way</option>{names}</select></label> {sliders} <output></output></p><div class="details">'
             f'{figures or "<p>Nothing was trapped.</p>"}</div><script type="application/json">{json.dumps(data)}'
             f"</script>")
+
+
+def narrower_text(page: PageFolder) -> str:
+    """That thin strokes have traps of their own."""
+    thin = read_layout(page).get("thin")
+    return " Small type and thin lines have narrower ones." if thin and thin["zones"] else ""
+
+
+def keepaway_text(page: PageFolder) -> str:
+    """How far which inks were drawn back."""
+    done = json.loads(read_text(page.file(TRAPPED, JSON)) or "{}").get(keepaway.KEY, {})
+    lines = keepaway.lines_of(done, {ink.name: readable(ink.colorant) for ink in page.inks})
+    return "".join(f"<p>{escaped(line)}</p>" for line in lines)
 
 
 def canvas(part: Part) -> str:
@@ -298,9 +315,11 @@ def map_text(sheet: Sheet, ground: Array) -> str:
     # Two plates that are off each its own way part by twice as much.
     far = (f" That is more than traps of {sheet.width:.2f} samples close everywhere."
            if 0 < sheet.width < 2 * sheet.radius else "")
-    return (f"<h3>What misregister still bares</h3><p>{swatch(RED)}a light seam can open here, each plate being off by "
+    return (f"<h3>Where gaps can still open</h3><p>{swatch(RED)}a light gap can open here, each plate being off by "
             f"{radius} in both directions: {after:,} samples after trapping, {before:,} before. {swatch(BLUE)}closed "
-            f'by a trap.{far}</p>{image(sheet.map(ground), "a map of what misregister bares")}')
+            f"by a trap.{far}</p><p>Expect red at small type, inside images, and at marks outside the trim or bleed "
+            f"box: traps are narrower or left out there. Look at red in other places.</p>"
+            f'{image(sheet.map(ground), "a map of the gaps that can still open")}')
 
 
 def plate_text(sheet: Sheet, at: int) -> str:

@@ -3,6 +3,7 @@
 import contextlib
 import multiprocessing
 import os
+import re
 import signal
 import subprocess
 import time
@@ -22,6 +23,8 @@ from .claims import WHY, Claim, Signature, signature
 from .report import PAGES, write_report
 
 OUT, TOLD, FAILED = "out", "told.txt", "failed"
+# How a refusal ends that only a warning calls for, and how in a hot folder, to which nobody gave --strict.
+STRICTLY, LENIENTLY = r" \(--strict\)$", " (a warning, and --lenient is not given)"
 # How long a command may run, in seconds.
 COMMAND_SECONDS = 600
 STOPPED = {code for number in tools.STOPS for code in (-number, 128 + number)}
@@ -57,7 +60,7 @@ def run_file(job: Claim, attempt: str, end: Connection, parent: int) -> None:
             print(short(why), file=file)
         except OSError as fault:
             why = clean(f"press-all: {os.fsdecode(fault.filename or 'write')}: {reason(fault)}")
-        end.send(short(why))
+        end.send(re.sub(STRICTLY, LENIENTLY, short(why), flags=re.MULTILINE))
 
 
 class Job:
