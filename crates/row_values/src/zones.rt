@@ -2,16 +2,28 @@ ghost use Rattle.std.specs.Prelude.{◌≡◌, ◌<◌, ◌≤◌, ◌+◌, ◌*
 ghost use Rattle.row_values.specs.Room.{Serves};
 ghost use Rattle.row_values.specs.Rows.{HoldsZones, zone_value};
 ghost use Rattle.page_model.specs.Page.{height, width};
+ghost use Rattle.zone_map.specs.Extents.{SpansZones};
 
 use crate::rows::Rows;
 use crate::workspace::Workspace;
 use page_model::page::Page;
-use zone_map::{SpanBuf, zone_row};
+use zone_map::{Extent, NO_EXTENT, SpanBuf, write_extents, zone_row_near};
+
+/// The number of zones of a page, at most.
+const MOST_ZONES: usize = 251;
 
 /// Writes the zones of row k of these rows.
-fn write_zones(page: &Page, rows: Rows, k: u32, out: &mut [u8], spans: &mut SpanBuf)
+fn write_zones(
+    page: &Page,
+    rows: Rows,
+    k: u32,
+    extents: &[Extent],
+    out: &mut [u8],
+    spans: &mut SpanBuf,
+)
     requires row { k < rows.count }
     requires inside { rows.first + rows.count ≤ height page.now }
+    requires extents { SpansZones page.now extents.now }
     requires out { length out.old ≡ rows.count * width page.now }
     requires spans { spans.old.wide ≡ width page.now }
     ensures here { (x : ℕ) → x < width page.now
@@ -23,7 +35,8 @@ fn write_zones(page: &Page, rows: Rows, k: u32, out: &mut [u8], spans: &mut Span
 {
     let width = page.width() as usize;
     let start = k as usize * width;
-    zone_row(page, rows.first + k, &mut out[start..start + width], spans);
+    let row = &mut out[start..start + width];
+    zone_row_near(page, rows.first + k, extents, row, spans);
 }
 
 fn zones_into(page: &Page, rows: Rows, out: &mut [u8], spans: &mut SpanBuf)
@@ -34,8 +47,11 @@ fn zones_into(page: &Page, rows: Rows, out: &mut [u8], spans: &mut SpanBuf)
     ensures len { length out.new ≡ length out.old }
     ensures spans { spans.new ≡ spans.old }
 {
+    let _valid = page.plates();
+    let mut extents = [NO_EXTENT; MOST_ZONES];
+    write_extents(page, &mut extents);
     for k in 0..rows.count {
-        write_zones(page, rows, k, out, spans);
+        write_zones(page, rows, k, &extents, out, spans);
     }
 }
 

@@ -5,3 +5,4 @@ pub mod TallyLemmas
 pub mod TurnLemmas
 pub mod TurnTests
 pub mod CoverLemmas
+pub mod ExtentLemmas

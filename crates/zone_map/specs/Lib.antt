@@ -2,3 +2,4 @@ pub mod Room
 pub mod PagePoints
 pub mod Subpaths
 pub mod Tallies
+pub mod Extents

@@ -4,10 +4,12 @@
 #![tactic(auto)]
 
 mod crossings;
+mod extent;
 mod gaps;
 mod row;
 mod spans;
 mod tally;
 
-pub use row::zone_row;
+pub use extent::{Extent, NO_EXTENT, write_extents};
+pub use row::{zone_row, zone_row_near};
 pub use spans::SpanBuf;

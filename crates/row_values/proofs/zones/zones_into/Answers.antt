@@ -10,5 +10,6 @@ loop-k-preserved c = record {
   end = c.loop-k.invariant.end;
   long = c.write_zones.ensures.len ∙ c.loop-k.invariant.long;
   spans = c.write_zones.ensures.spans ∙ c.loop-k.invariant.spans;
+  extents = c.loop-k.invariant.extents;
   done = rows_more (width c.args.page.now) c.loop-k.k (λ (j : ℕ). zone_value c.args.page.now (c.args.rows.first + j)) c.loop-k.out c.write_zones.new.out c.write_zones.ensures.kept c.write_zones.ensures.here c.loop-k.invariant.done;
 }
