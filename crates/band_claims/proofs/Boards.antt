@@ -3,12 +3,12 @@ use Rattle.std.proofs.Common.{◌≡◌, ◌≢◌, ◌⊎◌, ℕ, zero, suc, �
 use Rattle.std.specs.Prelude.{MatchOption, not}
 use Rattle.std.proofs.lemmas.Bool.{cases_eq, cases_order}
 use Rattle.lists.specs.Words.{any_below}
-use Rattle.band_board.specs.Shapes.{Shape, IsShape, Has}
-use Rattle.band_board.specs.Boards.{state_at, cell_at, state_free, state_claimed, state_done, is_done, lacks, lacks_in, has_empty, empty_in}
-use Rattle.band_board.specs.TableWords.{state_of, board_of}
-use Rattle.band_board.specs.Runs.{Sound}
-use Rattle.band_board.proofs.Keeps.{sound_claim as board_claim, sound_done as board_done, sound_put as board_put}
-use Rattle.band_board.proofs.TableWords.{state_is, cell_is, piece_changed, cell_changed}
+use Rattle.band_core.specs.TableShapes.{Shape, IsShape, Has}
+use Rattle.band_core.specs.Boards.{state_at, cell_at, state_free, state_claimed, state_done, is_done, lacks, lacks_in, has_empty, empty_in}
+use Rattle.band_core.specs.TableWords.{state_of, board_of}
+use Rattle.band_core.specs.Runs.{Sound}
+use Rattle.band_core.proofs.Keeps.{sound_claim as board_claim, sound_done as board_done, sound_put as board_put}
+use Rattle.band_core.proofs.TableWords.{state_is, cell_is, piece_changed, cell_changed}
 use Rattle.band_claims.specs.declared.table_key.TableKey.{TableKey}
 use Rattle.band_claims.specs.declared.view.View.{View}
 use Rattle.band_claims.specs.Views.{one_if, is_hand, holds, Knows}

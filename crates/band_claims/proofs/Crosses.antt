@@ -3,7 +3,7 @@ use denote.Param.Send.{IsSend, IsSync, sendable}
 use Rattle.std.proofs.Crossing.{crosses, frees}
 use Rattle.atomic_table.proofs.owned.Table.TheSendSync as table
 use Rattle.atomic_table.proofs.shared.Seat.TheSendSync as seat
-use Rattle.row_cells.proofs.layout.Layout.TheSendSync as layout
+use Rattle.band_core.proofs.layout.Layout.TheSendSync as layout
 use Rattle.band_claims.specs.contracts.shared.Shared as shared
 use Rattle.band_claims.specs.contracts.pass.Pass as pass
 

@@ -7,10 +7,10 @@ use Rattle.std.proofs.lemmas.List.{get_or_default, get_or-replicate, length-repl
 use Rattle.std.proofs.Math.Nat.{mul-le-mul_right}
 use Rattle.page_model.specs.Bands.{phase_of, band_of, ceiling, rows_in}
 use Rattle.page_model.proofs.BandLemmas.{ceiling-below}
-use Rattle.row_cells.specs.Layouts.{Layout, IsLayout}
-use Rattle.row_cells.specs.Places.{piece_count, per_row, value_total, cell_total, lanes_of, bits_of, first_cell_of}
-use Rattle.row_cells.specs.Packing.{packed}
-use Rattle.row_cells.proofs.Places.{some_lanes, rows_fit, per_row_few}
+use Rattle.band_core.specs.Layouts.{Layout, IsLayout}
+use Rattle.band_core.specs.Places.{piece_count, per_row, value_total, cell_total, lanes_of, bits_of, first_cell_of}
+use Rattle.band_core.specs.Packing.{packed}
+use Rattle.band_core.proofs.Places.{some_lanes, rows_fit, per_row_few}
 use Rattle.band_core.specs.Values.{value}
 use Rattle.band_core.proofs.Bridges.{cell_packs, fits}
 use Rattle.band_claims.specs.declared.table_key.TableKey.{TableKey}

@@ -4,13 +4,13 @@ use Rattle.std.specs.Prelude.{not, if◌then◌else◌}
 use Rattle.std.proofs.lemmas.Bool.{and_from, eq-eqb, le-leb, lt-ltb}
 use Rattle.atomic_table.specs.Table.{State}
 use Rattle.lists.proofs.AnyBelow.{any_below-from}
-use Rattle.band_board.specs.declared.event.Event.{Event}
-use Rattle.band_board.specs.Shapes.{Shape, IsShape}
-use Rattle.band_board.specs.Boards.{Board, cell_at, state_free, state_claimed, is_free, is_claimed, lacks, has_empty, in_hand, hand_in, allowed, changed, InRange}
-use Rattle.band_board.specs.Runs.{Sound, ByDefinition, Halo, Step, IsRun, played}
-use Rattle.band_board.specs.TableWords.{board_of, rewritten}
-use Rattle.band_board.proofs.Runs.{defined_fits}
-use Rattle.band_board.proofs.TableWords.{one_word, cell_is}
+use Rattle.band_core.specs.declared.event.Event.{Event}
+use Rattle.band_core.specs.TableShapes.{Shape, IsShape}
+use Rattle.band_core.specs.Boards.{Board, cell_at, state_free, state_claimed, is_free, is_claimed, lacks, has_empty, in_hand, hand_in, allowed, changed, InRange}
+use Rattle.band_core.specs.Runs.{Sound, ByDefinition, Halo, Step, IsRun, played}
+use Rattle.band_core.specs.TableWords.{board_of, rewritten}
+use Rattle.band_core.proofs.Runs.{defined_fits}
+use Rattle.band_core.proofs.TableWords.{one_word, cell_is}
 use Rattle.band_claims.specs.declared.table_key.TableKey.{TableKey}
 use Rattle.band_claims.specs.declared.view.View.{View}
 use Rattle.band_claims.specs.Kinds.{Kind, looks, wins, loses, reads, puts, finishes, splits, joins, Happens, Leads, event_of, events_of, and_then}

@@ -9,10 +9,10 @@ use Rattle.atomic_table.specs.Table.{State, Splits, Joins, opening}
 use Rattle.atomic_table.proofs.Lists.{at_set, at_snoc, set_else}
 use Rattle.band_claims.specs.declared.table_key.TableKey.{TableKey}
 use Rattle.band_claims.specs.declared.view.View.{View}
-use Rattle.band_board.specs.Shapes.{Shape, IsShape}
-use Rattle.band_board.specs.Boards.{state_free, state_done}
-use Rattle.band_board.proofs.Boards.{clash}
-use Rattle.band_board.proofs.TableWords.{is_board, cell_is}
+use Rattle.band_core.specs.TableShapes.{Shape, IsShape}
+use Rattle.band_core.specs.Boards.{state_free, state_done}
+use Rattle.band_core.proofs.Boards.{clash}
+use Rattle.band_core.proofs.TableWords.{is_board, cell_is}
 use Rattle.band_claims.specs.Shares.{IsCutBy, halved}
 use Rattle.band_claims.specs.Views.{IsFair, one_if, times, total, is_hand, holds, publishes, Knows, look, newcomer, spent, looked_at, claimed, put, finished, parted, branched, joined}
 use Rattle.band_claims.specs.Rule.{piece_word, cell_word}

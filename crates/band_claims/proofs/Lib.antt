@@ -13,3 +13,5 @@ pub mod Crosses
 pub mod Past
 pub mod Refuted
 pub mod Cutting
+pub mod Accounting
+pub mod Pigeons

@@ -5,9 +5,9 @@ use Rattle.std.proofs.lemmas.Bool.{cases_eq}
 use Rattle.page_model.specs.declared.bands.Bands.{Bands}
 use Rattle.page_model.specs.Bands.{AreBands, pieces_of}
 use Rattle.lists.specs.Words.{count_below}
-use Rattle.band_graph.specs.Needs.{is_need}
-use Rattle.band_graph.proofs.CountLemmas.{count-less, count-same}
-use Rattle.band_graph.proofs.NeedLemmas.{need_less}
+use Rattle.band_core.specs.Needs.{is_need}
+use Rattle.band_core.proofs.CountLemmas.{count-less, count-same}
+use Rattle.band_core.proofs.NeedLemmas.{need_less}
 use Rattle.band_claims.specs.declared.view.View.{View}
 use Rattle.band_claims.specs.declared.view.Look.{Look}
 use Rattle.band_claims.specs.Views.{Knows, look, looked_at, claimed, Looks, Won, Lost}

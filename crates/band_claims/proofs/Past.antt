@@ -6,8 +6,8 @@ use mathlib.Core.Option.{some, some-injective, some-ne-none}
 use lib.ListN.{get_elem?}
 use Rattle.atomic_table.specs.Table.{State}
 use Rattle.atomic_table.proofs.Lists.{at_set, at_snoc}
-use Rattle.band_board.specs.Shapes.{Shape, IsShape}
-use Rattle.band_board.proofs.TableWords.{zero_at}
+use Rattle.band_core.specs.TableShapes.{Shape, IsShape}
+use Rattle.band_core.proofs.TableWords.{zero_at}
 use Rattle.band_claims.specs.declared.table_key.TableKey.{TableKey}
 use Rattle.band_claims.specs.declared.view.View.{View}
 use Rattle.band_claims.specs.declared.view.Look.{Look}

@@ -5,10 +5,10 @@ use Rattle.std.proofs.lemmas.Bool.{cases_eq, false≢true}
 use mathlib.Core.Option.{some}
 use lib.ListN.{get_elem?}
 use Rattle.atomic_table.specs.Table.{State}
-use Rattle.band_board.specs.Shapes.{Shape, IsShape}
-use Rattle.band_board.specs.Boards.{state_claimed, state_done, is_claimed, is_done}
-use Rattle.band_board.specs.TableWords.{state_of, board_of}
-use Rattle.band_board.proofs.TableWords.{state_is, cell_is}
+use Rattle.band_core.specs.TableShapes.{Shape, IsShape}
+use Rattle.band_core.specs.Boards.{state_claimed, state_done, is_claimed, is_done}
+use Rattle.band_core.specs.TableWords.{state_of, board_of}
+use Rattle.band_core.proofs.TableWords.{state_is, cell_is}
 use Rattle.band_claims.specs.declared.table_key.TableKey.{TableKey}
 use Rattle.band_claims.specs.declared.view.View.{View}
 use Rattle.band_claims.specs.Views.{one_if, total, is_hand, holds, publishes}

@@ -4,9 +4,9 @@ use mathlib.Core.Option.{some}
 use lib.ListN.{get_elem?}
 use Rattle.atomic_table.specs.Table.{State, Me}
 use Rattle.atomic_table.proofs.Lists.{set_else}
-use Rattle.band_board.specs.Shapes.{Shape}
-use Rattle.band_board.proofs.TableWords.{zero_at}
-use Rattle.band_graph.proofs.NeedLemmas.{need_less}
+use Rattle.band_core.specs.TableShapes.{Shape}
+use Rattle.band_core.proofs.TableWords.{zero_at}
+use Rattle.band_core.proofs.NeedLemmas.{need_less}
 use Rattle.band_claims.specs.declared.table_key.TableKey.{TableKey}
 use Rattle.band_claims.specs.declared.view.View.{View}
 use Rattle.band_claims.specs.Kinds.{Kind, looks, wins, puts, finishes, splits, Happens, MayClaim, MayPut, MayFinish, moved, first_state}

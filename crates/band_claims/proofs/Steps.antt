@@ -9,21 +9,21 @@ use lib.ListN.{get_elem?}
 use Rattle.atomic_table.proofs.Lists.{set_else}
 use Rattle.atomic_table.specs.Table.{State, Me, keeps, Allows, Splits, Joins, opening, Final, Seen}
 use Rattle.page_model.specs.Bands.{pieces_of}
-use Rattle.row_cells.proofs.Places.{cells_fit}
-use Rattle.band_board.specs.Shapes.{Shape, IsShape, Has}
-use Rattle.band_board.specs.TableWords.{board_of}
-use Rattle.band_board.specs.Runs.{Sound, Halo, IsRun, played}
+use Rattle.band_core.proofs.Places.{cells_fit}
+use Rattle.band_core.specs.TableShapes.{Shape, IsShape, Has}
+use Rattle.band_core.specs.TableWords.{board_of}
+use Rattle.band_core.specs.Runs.{Sound, Halo, IsRun, played}
 use Rattle.band_core.specs.Recipe.{recipe}
 use Rattle.band_core.proofs.Halo.{halo}
 use Rattle.band_core.proofs.Shapes.{is_shape}
-use Rattle.band_board.specs.Boards.{Board}
-use Rattle.band_board.proofs.TableWords.{opening_words}
+use Rattle.band_core.specs.Boards.{Board}
+use Rattle.band_core.proofs.TableWords.{opening_words}
 use Rattle.band_claims.specs.Kinds.{Kind, looks as kind_looks, wins as kind_wins, loses as kind_loses, reads as kind_reads, puts as kind_puts, finishes as kind_finishes, splits as kind_splits, joins as kind_joins, Happens, Leads, MayClaim, MayRead, MayPut, MayFinish, moved, events_of, first_state}
 use Rattle.band_claims.specs.Remembered.{Remembered, Ends}
 use Rattle.band_claims.proofs.Totals.{set_there}
 use Rattle.band_claims.specs.Laws.{EndsAreRuns, KeepsRule, StepsAreRun}
 use Rattle.band_claims.proofs.Events.{keeps_rule, steps_run}
-use Rattle.band_board.proofs.TableWords.{zero_at}
+use Rattle.band_core.proofs.TableWords.{zero_at}
 use Rattle.std.proofs.lemmas.List.{length-replicate}
 use Rattle.band_core.proofs.Bridges.{cell_word}
 use Rattle.band_claims.specs.declared.table_key.TableKey.{TableKey}

@@ -4,8 +4,8 @@ use Rattle.band_claims.specs.declared.table_key.TableKey.{TableKey}
 use Rattle.band_claims.specs.declared.view.View.{View}
 use Rattle.band_core.specs.Values.{value}
 use Rattle.page_model.specs.Bands.{phase_of}
-use Rattle.row_cells.specs.Layouts.{Layout}
-use Rattle.row_cells.specs.Places.{lanes_of, value_total}
+use Rattle.band_core.specs.Layouts.{Layout}
+use Rattle.band_core.specs.Places.{lanes_of, value_total}
 
 -- the view with n cells of its piece filled
 abbrev pub filled_to : ℕ → View → View

@@ -3,9 +3,9 @@
 use Rattle.std.specs.Prelude.{◌≡◌, ◌≢◌, ℕ, ◌+◌, ◌<◌, ◌≤◌, Bool, true, List, [], ◌∷◌, ◌++◌, Option}
 use Rattle.std.specs.Prelude.{Some, None, length, slice_set, replicate}
 use Rattle.atomic_table.specs.Table.{State, opening}
-use Rattle.band_board.specs.declared.event.Event.{Event}
-use Rattle.band_board.specs.declared.event.Event.TheVariants.{Claim, Put, Done}
-use Rattle.band_board.specs.Shapes.{Shape, Has}
+use Rattle.band_core.specs.declared.event.Event.{Event}
+use Rattle.band_core.specs.declared.event.Event.TheVariants.{Claim, Put, Done}
+use Rattle.band_core.specs.TableShapes.{Shape, Has}
 use Rattle.band_claims.specs.declared.table_key.TableKey.{TableKey}
 use Rattle.band_claims.specs.declared.view.View.{View}
 use Rattle.band_claims.specs.Rule.{Sees, piece_word}

@@ -1,12 +1,12 @@
 -- The rule in words of single views, and what all steps together are.
 use Rattle.std.specs.Prelude.{◌≡◌, ℕ, ◌<◌, ◌≤◌, List, ◌∷◌, ◌++◌, Some, true}
 use Rattle.atomic_table.specs.Table.{State}
-use Rattle.band_board.specs.declared.event.Event.{Event}
-use Rattle.band_board.specs.Shapes.{Shape}
-use Rattle.band_board.specs.Boards.{is_claimed, opening}
-use Rattle.band_board.specs.Runs.{IsRun, played}
+use Rattle.band_core.specs.declared.event.Event.{Event}
+use Rattle.band_core.specs.TableShapes.{Shape}
+use Rattle.band_core.specs.Boards.{is_claimed, opening}
+use Rattle.band_core.specs.Runs.{IsRun, played}
 use Rattle.band_core.specs.Recipe.{recipe}
-use Rattle.band_board.specs.TableWords.{board_of}
+use Rattle.band_core.specs.TableWords.{board_of}
 use Rattle.band_claims.specs.declared.table_key.TableKey.{TableKey}
 use Rattle.band_claims.specs.declared.view.View.{View}
 use Rattle.band_claims.specs.declared.view.Look.{Look}

@@ -10,3 +10,4 @@ pub mod Remembered
 pub mod Laws
 pub mod Refuted
 pub mod Filled
+pub mod Accounts

@@ -5,10 +5,10 @@ use Rattle.std.specs.Prelude.{None, MatchOption}
 use mathlib.Core.Option.{some}
 use lib.ListN.{get_elem?}
 use Rattle.atomic_table.specs.Table.{State}
-use Rattle.band_board.specs.Shapes.{Shape}
-use Rattle.band_board.specs.Boards.{Board, cell_at, is_claimed, is_done}
-use Rattle.band_board.specs.TableWords.{AreWords, board_of}
-use Rattle.band_board.specs.Runs.{Sound}
+use Rattle.band_core.specs.TableShapes.{Shape}
+use Rattle.band_core.specs.Boards.{Board, cell_at, is_claimed, is_done}
+use Rattle.band_core.specs.TableWords.{AreWords, board_of}
+use Rattle.band_core.specs.Runs.{Sound}
 use Rattle.band_claims.specs.declared.table_key.TableKey.{TableKey}
 use Rattle.band_claims.specs.declared.view.View.{View}
 use Rattle.band_claims.specs.TableKeys.{shape_of, cell}

@@ -3,7 +3,7 @@ use Rattle.std.specs.Prelude.{◌≡◌, ℕ, ◌+◌, ◌<◌, List, Some, Matc
 use Rattle.atomic_table.specs.Seated.{TableId}
 use Rattle.band_claims.specs.declared.table_key.TableKey.{TableKey}
 use Rattle.band_claims.specs.declared.view.View.{View}
-use Rattle.band_board.specs.Shapes.{Shape}
+use Rattle.band_core.specs.TableShapes.{Shape}
 use Rattle.band_claims.specs.TableKeys.{shape_of, IsFit}
 
 -- the table that a pass steps on, and what it knows

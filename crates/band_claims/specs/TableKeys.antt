@@ -1,7 +1,7 @@
 -- What the rule reads of a table's key.
 use Rattle.std.specs.Prelude.{ℕ}
 use Rattle.band_core.specs.Shapes.{shape_of as layout_shape}
-use Rattle.band_board.specs.Shapes.{Shape}
+use Rattle.band_core.specs.TableShapes.{Shape}
 use Rattle.band_core.specs.Values.{IsFor, cell as page_cell}
 use Rattle.band_claims.specs.declared.table_key.TableKey.{TableKey}
 

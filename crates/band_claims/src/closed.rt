@@ -8,9 +8,9 @@ ghost use Rattle.band_claims.specs.Rule.{cell_word};
 
 use crate::pass::Pass;
 use crate::table_key::TableKey;
-use band_graph::needs::pieces;
+use band_core::needs::pieces;
 use page_model::bands::Bands;
-use row_cells::layout::Layout;
+use band_core::layout::Layout;
 use std::alloc::Global;
 use std::marker::Model;
 use std::snapshot::Snapshot;

@@ -8,8 +8,8 @@ ghost use Rattle.band_claims.specs.Rule.{RuleOf};
 ghost use Rattle.band_claims.specs.Refuted.{LooksAreHonest, MayForge};
 ghost use Rattle.band_claims.specs.TableKeys.{IsFit, cell, shape_of};
 ghost use Rattle.atomic_table.specs.Table.{State};
-ghost use Rattle.band_board.specs.Runs.{Sound};
-ghost use Rattle.band_board.specs.TableWords.{board_of};
+ghost use Rattle.band_core.specs.Runs.{Sound};
+ghost use Rattle.band_core.specs.TableWords.{board_of};
 
 /// A claimed piece is held by exactly one view, and no other piece is held.
 pub fn held_once_law()

@@ -2,15 +2,15 @@ ghost use Rattle.std.specs.Prelude.{◌≡◌, ℕ, ◌<◌, ◌≤◌, ◌+◌,
 ghost use Rattle.band_claims.specs.Seating.{Seats};
 ghost use Rattle.band_claims.specs.TableKeys.{IsFit, cell, shape_of};
 ghost use Rattle.page_model.specs.Bands.{phase_of, pieces_of};
-ghost use Rattle.row_cells.specs.Places.{cell_total, first_cell_of, value_total};
+ghost use Rattle.band_core.specs.Places.{cell_total, first_cell_of, value_total};
 ghost use Rattle.band_claims.specs.Filled.{AreValues, IsCut, filled_to};
 
 use crate::pass::Pass;
 use crate::shared::Shared;
 use crate::table_key::TableKey;
-use row_cells::layout::{bits, lanes};
-use row_cells::packing::pack;
-use row_cells::values::CellValue;
+use band_core::layout::{bits, lanes};
+use band_core::packing::pack;
+use band_core::values::CellValue;
 
 /// The number of words that are made before they are stored, at most: a store waits for all that is before it, and
 /// packing between two stores would wait too.

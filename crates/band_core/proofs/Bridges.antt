@@ -11,11 +11,11 @@ use Rattle.lists.specs.Words.{list_below}
 use Rattle.page_model.proofs.PageLemmas.{plane_of}
 use Rattle.page_model.specs.Bands.{phase_of, band_of, piece_of, rows_in}
 use Rattle.page_model.proofs.BandLemmas.{phase-less, row_in_band, phase_of_piece, band_of_piece}
-use Rattle.row_cells.specs.Layouts.{Layout}
-use Rattle.row_cells.specs.Packing.{packed, lane, IsBits}
-use Rattle.row_cells.specs.Places.{HasCell, piece_count, per_row, bits_of, lanes_of, value_total, cell_total, first_cell_of, cells_of, piece_of_cell}
-use Rattle.row_cells.proofs.Lanes.{under}
-use Rattle.row_cells.proofs.Places.{owner, owner-is, some_lanes}
+use Rattle.band_core.specs.Layouts.{Layout}
+use Rattle.band_core.specs.Packing.{packed, lane, IsBits}
+use Rattle.band_core.specs.Places.{HasCell, piece_count, per_row, bits_of, lanes_of, value_total, cell_total, first_cell_of, cells_of, piece_of_cell}
+use Rattle.band_core.proofs.Lanes.{under}
+use Rattle.band_core.proofs.Places.{owner, owner-is, some_lanes}
 use Rattle.band_core.specs.Values.{IsFor, row_value, row_of, place_of, value, cut, cell}
 use Rattle.band_core.specs.Laws.{RowValues, RowsOfPieces}
 use Rattle.band_core.proofs.Cells.{cell_at_piece, cell_inside, lane_of_cut}

@@ -4,12 +4,12 @@ use Rattle.std.proofs.Math.Nat.{mod-lt}
 use Rattle.lists.specs.Words.{list_below}
 use Rattle.page_model.specs.Bands.{phase_of}
 use Rattle.page_model.proofs.BandLemmas.{ceiling-above}
-use Rattle.row_cells.specs.Layouts.{Layout}
-use Rattle.row_cells.specs.Packing.{packed, lane}
-use Rattle.row_cells.specs.Places.{HasCell, piece_count, bits_of, lanes_of, value_total, cell_total, first_cell_of, piece_of_cell}
-use Rattle.row_cells.proofs.Lanes.{lane_packed}
-use Rattle.row_cells.proofs.Places.{owner-is, some_lanes}
-use Rattle.band_board.specs.Boards.{Board, cell_at}
+use Rattle.band_core.specs.Layouts.{Layout}
+use Rattle.band_core.specs.Packing.{packed, lane}
+use Rattle.band_core.specs.Places.{HasCell, piece_count, bits_of, lanes_of, value_total, cell_total, first_cell_of, piece_of_cell}
+use Rattle.band_core.proofs.Lanes.{lane_packed}
+use Rattle.band_core.proofs.Places.{owner-is, some_lanes}
+use Rattle.band_core.specs.Boards.{Board, cell_at}
 use Rattle.band_core.specs.Values.{cut, cell_of}
 use Rattle.band_core.specs.Recipe.{unpacked}
 use Rattle.lists.proofs.ListBelow.{length-list_below, list_below-at, all_below}

@@ -14,7 +14,7 @@ use Rattle.page_model.specs.Zones.{zone_of}
 use Rattle.page_model.proofs.ColumnDecider.{column_edge-is, passes, rank}
 use Rattle.lists.proofs.FirstLeast.{Answers}
 use Rattle.page_model.proofs.ZoneLemmas.{zone_of-is}
-use Rattle.row_cells.specs.Places.{bits_of}
+use Rattle.band_core.specs.Places.{bits_of}
 use Rattle.band_core.specs.Values.{row_value}
 
 zone_fits : (page : PageParts) (p : At) → IsPage page → zone_of page p < 256

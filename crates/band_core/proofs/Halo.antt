@@ -8,15 +8,15 @@ use Rattle.page_model.specs.declared.parts.PageParts.{PageParts}
 use Rattle.page_model.specs.Page.{height}
 use Rattle.page_model.specs.Reach.{page_reach}
 use Rattle.page_model.specs.Bands.{band_of_row, phase_of, band_of, piece_of, rows_in}
-use Rattle.band_graph.specs.Needs.{is_need}
+use Rattle.band_core.specs.Needs.{is_need}
 use Rattle.page_model.proofs.BandLemmas.{row_in_band, phase_of_piece, band_of_piece, phase-less}
-use Rattle.band_graph.proofs.NeedLemmas.{need_less, need_earlier}
-use Rattle.row_cells.specs.Layouts.{Layout}
-use Rattle.row_cells.specs.Places.{piece_count, per_row, lanes_of, value_total, first_cell_of}
+use Rattle.band_core.proofs.NeedLemmas.{need_less, need_earlier}
+use Rattle.band_core.specs.Layouts.{Layout}
+use Rattle.band_core.specs.Places.{piece_count, per_row, lanes_of, value_total, first_cell_of}
 use Rattle.band_core.specs.Shapes.{shape_of}
-use Rattle.band_board.specs.Shapes.{Has}
-use Rattle.band_board.specs.Boards.{Board, cell_at, is_done}
-use Rattle.band_board.specs.Runs.{Sound, Halo}
+use Rattle.band_core.specs.TableShapes.{Has}
+use Rattle.band_core.specs.Boards.{Board, cell_at, is_done}
+use Rattle.band_core.specs.Runs.{Sound, Halo}
 use Rattle.band_core.specs.Values.{IsFor, row_value, row_of, place_of, value, cell}
 use Rattle.band_core.specs.Recipe.{held, unpacked, value_by, HoldsNeeds, recipe}
 use Rattle.band_core.specs.Laws.{PhaseLaw}

@@ -11,7 +11,7 @@ use Rattle.page_model.specs.Page.{width, height}
 use Rattle.lists.specs.Words.{gap}
 use Rattle.page_model.specs.declared.bands.Bands.{Bands}
 use Rattle.page_model.specs.Bands.{band_of_row}
-use Rattle.band_graph.specs.Needs.{halo_bands, near_bands}
+use Rattle.band_core.specs.Needs.{halo_bands, near_bands}
 use Rattle.page_model.proofs.BandLemmas.{bands_near}
 use Rattle.band_core.specs.Recipe.{Reading, marked_by, column_by}
 use Rattle.lists.proofs.Same.{first_least-same}

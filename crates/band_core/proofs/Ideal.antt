@@ -6,7 +6,7 @@ use Rattle.page_model.specs.Columns.{column_answer, offset_code, column_edge}
 use Rattle.page_model.specs.Deciding.{decides}
 use Rattle.page_model.specs.Page.{width}
 use Rattle.page_model.specs.Bands.{band_of_row}
-use Rattle.row_cells.specs.Layouts.{Layout}
+use Rattle.band_core.specs.Layouts.{Layout}
 use Rattle.band_core.specs.Values.{IsFor, row_value}
 use Rattle.band_core.specs.Recipe.{decides_by, column_by, row_by}
 use Rattle.band_core.proofs.HaloColumns.{column_same}

@@ -17,11 +17,11 @@ use Rattle.lists.specs.Words.{gap}
 use Rattle.page_model.proofs.PageLemmas.{plane_of}
 use Rattle.page_model.specs.declared.bands.Bands.{Bands}
 use Rattle.page_model.specs.Bands.{AreBands, ceiling, band_of_row, phase_of, band_of}
-use Rattle.band_graph.specs.Needs.{phase_needs, near_bands}
+use Rattle.band_core.specs.Needs.{phase_needs, near_bands}
 use Rattle.page_model.proofs.BandLemmas.{bands_near, row_in_band}
-use Rattle.band_graph.proofs.NeedLemmas.{need_from}
-use Rattle.row_cells.specs.Layouts.{Layout}
-use Rattle.row_cells.specs.Places.{per_row}
+use Rattle.band_core.proofs.NeedLemmas.{need_from}
+use Rattle.band_core.specs.Layouts.{Layout}
+use Rattle.band_core.specs.Places.{per_row}
 use Rattle.band_core.specs.Values.{IsFor}
 use Rattle.band_core.specs.Recipe.{Reading, zone_by, decides_by, mark_by, marked_by, column_by, arm_by, edge_by, tint_by, row_by, AgreeOnNeeds}
 use Rattle.lists.proofs.Same.{first_least-same, first_least-mapped}

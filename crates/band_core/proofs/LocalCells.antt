@@ -2,15 +2,15 @@
 use Rattle.std.proofs.Common.{◌≡◌, ℕ, ◌+◌, ◌-◌, ◌*◌, ◌/◌, ◌%◌, ◌<◌, true, refl, sym, ap, arith, subst}
 use Rattle.page_model.specs.declared.parts.PageParts.{PageParts}
 use Rattle.page_model.specs.Bands.{phase_of, band_of, piece_of, rows_in}
-use Rattle.band_graph.specs.Needs.{is_need}
+use Rattle.band_core.specs.Needs.{is_need}
 use Rattle.page_model.proofs.BandLemmas.{row_in_band, phase_of_piece, band_of_piece, phase-less}
-use Rattle.band_graph.proofs.NeedLemmas.{need_less}
-use Rattle.row_cells.specs.Layouts.{Layout}
-use Rattle.row_cells.specs.Packing.{lane}
-use Rattle.row_cells.specs.Places.{piece_count, per_row, bits_of, lanes_of, value_total, first_cell_of}
+use Rattle.band_core.proofs.NeedLemmas.{need_less}
+use Rattle.band_core.specs.Layouts.{Layout}
+use Rattle.band_core.specs.Packing.{lane}
+use Rattle.band_core.specs.Places.{piece_count, per_row, bits_of, lanes_of, value_total, first_cell_of}
 use Rattle.band_core.specs.Shapes.{shape_of}
-use Rattle.band_board.specs.Shapes.{Has}
-use Rattle.band_board.specs.Boards.{Board, cell_at}
+use Rattle.band_core.specs.TableShapes.{Has}
+use Rattle.band_core.specs.Boards.{Board, cell_at}
 use Rattle.band_core.specs.Values.{IsFor, row_of, place_of}
 use Rattle.band_core.specs.Recipe.{held, unpacked, value_by, AgreeOnNeeds}
 use Rattle.band_core.specs.Laws.{ReadsNeedsAlone}

@@ -7,16 +7,16 @@ use Rattle.lists.proofs.AnyBelow.{any_below-from}
 use Rattle.lists.proofs.Sums.{any_below-at}
 use Rattle.page_model.specs.declared.bands.Bands.{Bands}
 use Rattle.page_model.specs.Bands.{pieces_of}
-use Rattle.band_graph.specs.Needs.{is_need}
-use Rattle.band_graph.proofs.CountLemmas.{count-less, count-same}
-use Rattle.row_cells.specs.Layouts.{Layout, IsLayout}
-use Rattle.row_cells.specs.Places.{piece_count, cells_of, first_cell_of, cell_total}
-use Rattle.row_cells.proofs.Places.{cells_fit}
-use Rattle.row_cells.proofs.Sums.{sum_at_most}
-use Rattle.band_board.specs.declared.state.State.{State}
-use Rattle.band_board.specs.declared.state.State.TheVariants.{Free}
+use Rattle.band_core.specs.Needs.{is_need}
+use Rattle.band_core.proofs.CountLemmas.{count-less, count-same}
+use Rattle.band_core.specs.Layouts.{Layout, IsLayout}
+use Rattle.band_core.specs.Places.{piece_count, cells_of, first_cell_of, cell_total}
+use Rattle.band_core.proofs.Places.{cells_fit}
+use Rattle.band_core.proofs.Sums.{sum_at_most}
+use Rattle.band_core.specs.declared.state.State.{State}
+use Rattle.band_core.specs.declared.state.State.TheVariants.{Free}
 use Rattle.band_core.specs.Shapes.{shape_of}
-use Rattle.band_board.specs.Boards.{state_claimed, state_done, lacks_in, empty_in, hand_in}
+use Rattle.band_core.specs.Boards.{state_claimed, state_done, lacks_in, empty_in, hand_in}
 
 -- some need of piece i is not done
 abbrev pub Lacks : Layout → List State → ℕ → Type 0

@@ -1,12 +1,12 @@
 -- The shape of a layout.
 use Rattle.std.proofs.Common.{ℕ, suc, arith}
-use Rattle.band_graph.proofs.NeedLemmas.{need_less}
-use Rattle.row_cells.specs.Layouts.{Layout}
-use Rattle.row_cells.specs.Layouts.{IsLayout}
-use Rattle.row_cells.specs.Places.{HasCell, piece_count, cell_total}
-use Rattle.row_cells.proofs.Sums.{sum_at_most}
+use Rattle.band_core.proofs.NeedLemmas.{need_less}
+use Rattle.band_core.specs.Layouts.{Layout}
+use Rattle.band_core.specs.Layouts.{IsLayout}
+use Rattle.band_core.specs.Places.{HasCell, piece_count, cell_total}
+use Rattle.band_core.proofs.Sums.{sum_at_most}
 use Rattle.band_core.specs.Shapes.{shape_of}
-use Rattle.band_board.specs.Shapes.{IsShape, Has}
+use Rattle.band_core.specs.TableShapes.{IsShape, Has}
 
 pub is_shape : (layout : Layout) → IsLayout layout → IsShape (shape_of layout)
 is_shape layout is = record {

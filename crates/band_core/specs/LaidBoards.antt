@@ -1,8 +1,8 @@
 -- A board together with the layout that its cells stand by.
 use Rattle.std.specs.Prelude.{ℕ, List}
-use Rattle.band_board.specs.declared.state.State.{State}
-use Rattle.band_board.specs.Boards.{Board, IsBoard}
-use Rattle.row_cells.specs.Layouts.{Layout, IsLayout}
+use Rattle.band_core.specs.declared.state.State.{State}
+use Rattle.band_core.specs.Boards.{Board, IsBoard}
+use Rattle.band_core.specs.Layouts.{Layout, IsLayout}
 use Rattle.band_core.specs.Shapes.{shape_of}
 
 pub record LaidBoard : Type 0 where

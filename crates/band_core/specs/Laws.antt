@@ -9,14 +9,14 @@ use Rattle.page_model.specs.Reach.{page_reach}
 use Rattle.page_model.specs.Tints.{new}
 use Rattle.page_model.specs.Zones.{zone_of}
 use Rattle.page_model.specs.Bands.{phase_of, piece_of, band_of_row}
-use Rattle.band_graph.specs.Needs.{is_need}
-use Rattle.row_cells.specs.Layouts.{Layout}
-use Rattle.row_cells.specs.Places.{piece_count, per_row, value_total, cell_total, first_cell_of}
-use Rattle.row_cells.specs.Places.{bits_of, lanes_of}
-use Rattle.row_cells.specs.Packing.{packed, lane}
+use Rattle.band_core.specs.Needs.{is_need}
+use Rattle.band_core.specs.Layouts.{Layout}
+use Rattle.band_core.specs.Places.{piece_count, per_row, value_total, cell_total, first_cell_of}
+use Rattle.band_core.specs.Places.{bits_of, lanes_of}
+use Rattle.band_core.specs.Packing.{packed, lane}
 use Rattle.band_core.specs.Shapes.{shape_of}
-use Rattle.band_board.specs.Shapes.{Has}
-use Rattle.band_board.specs.Boards.{Board, cell_at}
+use Rattle.band_core.specs.TableShapes.{Has}
+use Rattle.band_core.specs.Boards.{Board, cell_at}
 use Rattle.band_core.specs.Values.{IsFor, value, cell, row_value}
 use Rattle.band_core.specs.Recipe.{Reading, value_by, HoldsNeeds, recipe}
 

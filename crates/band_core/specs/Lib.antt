@@ -1,3 +1,14 @@
+pub mod Packing
+pub mod Layouts
+pub mod Places
+pub mod Most
+pub mod TableShapes
+pub mod Boards
+pub mod Runs
+pub mod Stuck
+pub mod TableWords
+pub mod Needs
+pub mod Listing
 pub mod Shapes
 pub mod LaidBoards
 pub mod Values

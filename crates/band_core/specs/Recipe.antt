@@ -17,11 +17,11 @@ use Rattle.lists.specs.Words.{first_least, gap}
 use Rattle.page_model.specs.Zones.{zone_of}
 use Rattle.page_model.specs.declared.bands.Bands.{Bands}
 use Rattle.page_model.specs.Bands.{piece_of, band_of_row, phase_of, band_of}
-use Rattle.band_graph.specs.Needs.{is_need, near_bands}
-use Rattle.row_cells.specs.Layouts.{Layout}
-use Rattle.row_cells.specs.Packing.{lane}
-use Rattle.row_cells.specs.Places.{per_row, bits_of, lanes_of, first_cell_of}
-use Rattle.band_board.specs.Boards.{Board, cell_at}
+use Rattle.band_core.specs.Needs.{is_need, near_bands}
+use Rattle.band_core.specs.Layouts.{Layout}
+use Rattle.band_core.specs.Packing.{lane}
+use Rattle.band_core.specs.Places.{per_row, bits_of, lanes_of, first_cell_of}
+use Rattle.band_core.specs.Boards.{Board, cell_at}
 use Rattle.band_core.specs.Values.{row_value, row_of, place_of, cell_of}
 
 -- what somebody knows of the values of a page: of a phase, at place o of row y

@@ -1,8 +1,8 @@
 -- What a board reads of a layout.
-use Rattle.band_graph.specs.Needs.{is_need}
-use Rattle.row_cells.specs.Layouts.{Layout}
-use Rattle.row_cells.specs.Places.{piece_count, cells_of, first_cell_of, cell_total}
-use Rattle.band_board.specs.Shapes.{Shape}
+use Rattle.band_core.specs.Needs.{is_need}
+use Rattle.band_core.specs.Layouts.{Layout}
+use Rattle.band_core.specs.Places.{piece_count, cells_of, first_cell_of, cell_total}
+use Rattle.band_core.specs.TableShapes.{Shape}
 
 abbrev pub shape_of : Layout → Shape
 shape_of layout =

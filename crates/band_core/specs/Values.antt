@@ -10,11 +10,11 @@ use Rattle.page_model.specs.Tints.{new}
 use Rattle.lists.specs.Words.{list_below}
 use Rattle.page_model.specs.Zones.{zone_of}
 use Rattle.page_model.specs.Bands.{first_row, phase_of, band_of}
-use Rattle.row_cells.specs.Layouts.{Layout}
-use Rattle.row_cells.specs.Packing.{packed}
-use Rattle.row_cells.specs.Layouts.{IsLayout}
-use Rattle.row_cells.specs.Places.{per_row, bits_of, lanes_of, value_total, first_cell_of}
-use Rattle.row_cells.specs.Places.{piece_of_cell}
+use Rattle.band_core.specs.Layouts.{Layout}
+use Rattle.band_core.specs.Packing.{packed}
+use Rattle.band_core.specs.Layouts.{IsLayout}
+use Rattle.band_core.specs.Places.{per_row, bits_of, lanes_of, value_total, first_cell_of}
+use Rattle.band_core.specs.Places.{piece_of_cell}
 
 -- the layout is that of the page, in bands for its height and reach
 pub record IsFor (page : PageParts) (layout : Layout) : Type 0 where

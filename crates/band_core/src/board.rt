@@ -1,18 +1,18 @@
 ghost use Rattle.std.specs.Prelude.{◌≡◌, false, Some, None, IfOk, if◌then◌else◌};
 ghost use Rattle.page_model.specs.declared.parts.PageParts.{PageParts};
-ghost use Rattle.band_board.specs.Boards.{opening, after, InRange};
-ghost use Rattle.band_board.specs.Runs.{Sound, ByRecipe};
+ghost use Rattle.band_core.specs.Boards.{opening, after, InRange};
+ghost use Rattle.band_core.specs.Runs.{Sound, ByRecipe};
 ghost use Rattle.band_core.specs.Recipe.{recipe};
 ghost use Rattle.band_core.specs.Shapes.{shape_of};
 ghost use Rattle.band_core.specs.Values.{IsFor, cell};
 
 use crate::looks::{any_empty, any_lacks, any_takes};
-use band_board::event::Event;
-use band_board::state::State;
-use band_graph::needs::pieces;
+use crate::event::Event;
+use crate::state::State;
+use crate::needs::pieces;
 use lists::names::OutOfMemory;
 use page_model::bands::Bands;
-use row_cells::layout::Layout;
+use crate::layout::Layout;
 use std::alloc::Global;
 use std::marker::Model;
 

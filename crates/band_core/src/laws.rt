@@ -3,11 +3,11 @@
 
 ghost use Rattle.std.specs.Prelude.{◌≡◌, ◌<◌, ◌≤◌, ◌^◌, ℕ};
 ghost use Rattle.page_model.specs.declared.parts.PageParts.{PageParts};
-ghost use Rattle.row_cells.specs.Layouts.{Layout, IsLayout};
-ghost use Rattle.row_cells.specs.Places.{cells_of};
-ghost use Rattle.band_board.specs.Shapes.{IsShape};
-ghost use Rattle.band_board.specs.Runs.{Halo, RunLaw};
-ghost use Rattle.band_board.specs.Stuck.{NeverStuck};
+ghost use Rattle.band_core.specs.Layouts.{Layout, IsLayout};
+ghost use Rattle.band_core.specs.Places.{cells_of};
+ghost use Rattle.band_core.specs.TableShapes.{IsShape};
+ghost use Rattle.band_core.specs.Runs.{Halo, RunLaw};
+ghost use Rattle.band_core.specs.Stuck.{NeverStuck};
 ghost use Rattle.band_core.specs.Laws.{PhaseLaw, ReadsNeedsAlone, CellPacks, CellUnpacks, RowValues, RowsOfPieces};
 ghost use Rattle.band_core.specs.Recipe.{recipe};
 ghost use Rattle.band_core.specs.Shapes.{shape_of};

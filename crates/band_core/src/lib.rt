@@ -3,8 +3,17 @@
 #![tactic(auto)]
 
 pub mod board;
+pub mod board_laws;
+pub mod cell_laws;
+pub mod event;
 pub mod laws;
+pub mod layout;
 mod looks;
+pub mod need_laws;
+pub mod needs;
+pub mod packing;
+pub mod state;
+pub mod values;
 
-pub use band_board::event::Event;
-pub use band_board::state::State;
+pub use crate::event::Event;
+pub use crate::state::State;

@@ -1,11 +1,11 @@
 ghost use Rattle.std.specs.Prelude.{◌≡◌, ◌<◌, length};
-ghost use Rattle.row_cells.specs.Places.{piece_count, cells_of};
-ghost use Rattle.band_board.specs.Boards.{lacks_in, empty_in, hand_in};
+ghost use Rattle.band_core.specs.Places.{piece_count, cells_of};
+ghost use Rattle.band_core.specs.Boards.{lacks_in, empty_in, hand_in};
 ghost use Rattle.band_core.specs.Shapes.{shape_of};
 
-use band_board::state::State;
-use band_graph::needs::{need_at, need_count, pieces};
-use row_cells::layout::Layout;
+use crate::state::State;
+use crate::needs::{need_at, need_count, pieces};
+use crate::layout::Layout;
 
 /// Whether some need of a piece is not done.
 pub(crate) fn any_lacks(layout: &Layout, states: &[State], piece: u32) -> bool

@@ -2,10 +2,10 @@
 use Rattle.std.proofs.Common.{◌≡◌, ℕ, ◌+◌, ◌-◌, ◌*◌, ◌^◌, ◌<◌, ◌≤◌, sym, ◌∙◌, subst, arith}
 use Rattle.std.proofs.lemmas.Nat.{div-mul-add, mod-mul-add}
 use Rattle.page_model.specs.Bands.{phase_of, pieces_of}
-use Rattle.row_cells.specs.Layouts.{Layout}
-use Rattle.row_cells.specs.Packing.{lane}
-use Rattle.row_cells.specs.Places.{HasCell, bits_of, cell_total, first_cell_of, lanes_of, value_total}
-use Rattle.band_board.specs.Shapes.{Has}
+use Rattle.band_core.specs.Layouts.{Layout}
+use Rattle.band_core.specs.Packing.{lane}
+use Rattle.band_core.specs.Places.{HasCell, bits_of, cell_total, first_cell_of, lanes_of, value_total}
+use Rattle.band_core.specs.TableShapes.{Has}
 use Rattle.band_core.specs.Values.{value}
 use Rattle.band_core.proofs.Bridges.{cell_unpacks}
 use Rattle.band_core.proofs.Cells.{cell_inside}

@@ -3,9 +3,9 @@ use Rattle.std.proofs.Common.{◌≡◌, ℕ, ◌+◌, ◌-◌, ◌<◌, ◌≤�
 use Rattle.std.specs.Prelude.{slice_index, slice_set}
 use Rattle.std.proofs.lemmas.Bool.{cases_eq}
 use Rattle.std.proofs.lemmas.List.{length-set}
-use Rattle.row_cells.specs.Places.{cell_total, first_cell_of}
-use Rattle.band_board.specs.Shapes.{Has}
-use Rattle.band_board.proofs.Boards.{one_owner}
+use Rattle.band_core.specs.Places.{cell_total, first_cell_of}
+use Rattle.band_core.specs.TableShapes.{Has}
+use Rattle.band_core.proofs.Boards.{one_owner}
 use Rattle.band_claims.specs.declared.table_key.TableKey.{TableKey}
 use Rattle.band_claims.specs.Receipt.{Receipt}
 use Rattle.band_claims.specs.Rule.{cell_word}

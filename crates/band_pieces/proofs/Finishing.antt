@@ -4,15 +4,15 @@ use Rattle.std.specs.Prelude.{◌==◌, slice_index, slice_set}
 use Rattle.std.proofs.lemmas.Bool.{cases_eq, cases_order, eq-eqb, le-ltb, lt-ltb}
 use Rattle.page_model.specs.declared.parts.PageParts.{PageParts}
 use Rattle.page_model.specs.Bands.{pieces_of}
-use Rattle.band_graph.specs.Needs.{is_need}
-use Rattle.band_graph.proofs.NeedLemmas.{need_less}
-use Rattle.row_cells.specs.Layouts.{Layout}
-use Rattle.row_cells.proofs.Places.{owner}
-use Rattle.row_cells.specs.Places.{piece_of_cell}
-use Rattle.band_board.specs.Boards.{is_done, state_done}
-use Rattle.band_board.specs.Runs.{Sound}
-use Rattle.band_board.specs.TableWords.{AreWords, board_of, state_of}
-use Rattle.band_board.proofs.TableWords.{cell_is, state_is}
+use Rattle.band_core.specs.Needs.{is_need}
+use Rattle.band_core.proofs.NeedLemmas.{need_less}
+use Rattle.band_core.specs.Layouts.{Layout}
+use Rattle.band_core.proofs.Places.{owner}
+use Rattle.band_core.specs.Places.{piece_of_cell}
+use Rattle.band_core.specs.Boards.{is_done, state_done}
+use Rattle.band_core.specs.Runs.{Sound}
+use Rattle.band_core.specs.TableWords.{AreWords, board_of, state_of}
+use Rattle.band_core.proofs.TableWords.{cell_is, state_is}
 use Rattle.band_claims.specs.declared.table_key.TableKey.{TableKey}
 use Rattle.band_claims.specs.Receipt.{Receipt}
 use Rattle.band_claims.specs.Rule.{cell_word, piece_word}

@@ -9,8 +9,8 @@ use Rattle.page_model.specs.Bands.{band_of, phase_of, rows_in}
 use Rattle.page_model.specs.Deciding.{mark}
 use Rattle.page_model.specs.Page.{plates, width}
 use Rattle.page_model.specs.Tints.{new}
-use Rattle.row_cells.specs.Layouts.{Layout}
-use Rattle.row_cells.specs.Places.{per_row, value_total}
+use Rattle.band_core.specs.Layouts.{Layout}
+use Rattle.band_core.specs.Places.{per_row, value_total}
 use Rattle.band_core.specs.Values.{IsFor, row_value, value}
 use Rattle.band_claims.specs.declared.table_key.TableKey.{TableKey}
 use Rattle.band_claims.specs.TableKeys.{IsFit}

@@ -9,7 +9,7 @@ use Rattle.band_claims.specs.Views.{Knows}
 use Rattle.band_claims.proofs.Steps.{fit_shape, steps_are_run}
 use Rattle.band_claims.proofs.Readable.{kept}
 use Rattle.band_claims.proofs.Past.{looks_are_past, looks_are_told as run_looks_are_told, looks_rise}
-use Rattle.band_workers.specs.Accounts.{Shows}
+use Rattle.band_claims.specs.Accounts.{Shows}
 use Rattle.band_pieces.specs.Finished.{IsFinished}
 use Rattle.band_pieces.specs.Left.{LeftForNeeds, FirstAreDone, LooksAreTold}
 

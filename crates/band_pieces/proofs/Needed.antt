@@ -7,8 +7,8 @@ use Rattle.page_model.specs.declared.bands.Bands.{Bands}
 use Rattle.page_model.specs.Bands.{AreBands, band_of, band_of_row, first_row, phase_of, piece_of}
 use Rattle.page_model.specs.Columns.{halo}
 use Rattle.page_model.proofs.BandLemmas.{bands_near, row_in_band}
-use Rattle.band_graph.specs.Needs.{halo_bands, is_need, phase_needs}
-use Rattle.band_graph.proofs.NeedLemmas.{need_from}
+use Rattle.band_core.specs.Needs.{halo_bands, is_need, phase_needs}
+use Rattle.band_core.proofs.NeedLemmas.{need_from}
 
 -- a row of a band
 pub row_here : (h b k : ℕ) → k < h → (b * h + k) / h ≡ b

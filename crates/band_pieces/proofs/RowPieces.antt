@@ -5,8 +5,8 @@ use Rattle.std.proofs.lemmas.Bool.{cases_eq}
 use Rattle.std.proofs.lemmas.Nat.{mul-add-lt}
 use Rattle.page_model.specs.Bands.{band_of_row, piece_of}
 use Rattle.page_model.proofs.BandLemmas.{row_in_band}
-use Rattle.row_cells.specs.Layouts.{IsLayout, Layout}
-use Rattle.row_cells.specs.Places.{per_row, value_total}
+use Rattle.band_core.specs.Layouts.{IsLayout, Layout}
+use Rattle.band_core.specs.Places.{per_row, value_total}
 use Rattle.band_core.specs.Values.{row_value, value}
 use Rattle.band_core.proofs.Bridges.{rows_of_pieces}
 use Rattle.band_claims.specs.declared.table_key.TableKey.{TableKey}

@@ -1,7 +1,7 @@
 -- What of a closed table's words is known, and what filling a piece of it changes.
 use Rattle.std.specs.Prelude.{◌≡◌, ◌≢◌, ℕ, ◌+◌, ◌<◌, ◌≤◌, ◌&&◌, not, nat_lt, ◌==◌, length}
 use Rattle.std.specs.Prelude.{slice_index, slice_set}
-use Rattle.band_board.specs.Shapes.{Has}
+use Rattle.band_core.specs.TableShapes.{Has}
 use Rattle.band_claims.specs.Receipt.{Receipt}
 use Rattle.band_claims.specs.Rule.{cell_word, piece_word}
 use Rattle.band_claims.specs.TableKeys.{cell, shape_of}

@@ -9,7 +9,7 @@ use Rattle.band_claims.specs.Remembered.{Steps}
 use Rattle.band_claims.specs.Rule.{Sees, cell_word, piece_word}
 use Rattle.band_claims.specs.TableKeys.{cell, shape_of, IsFit}
 use Rattle.band_claims.specs.Views.{one_if, times}
-use Rattle.band_workers.specs.Accounts.{IsAccounted}
+use Rattle.band_claims.specs.Accounts.{IsAccounted}
 
 -- The table as the passes left it: steps of the eight kinds led there from its opening, to the
 -- words that the receipt keeps, what the receipt tells of the last pass is what a seat knew then,

@@ -1,7 +1,7 @@
 -- What the receipt's run says of the work that the passes left.
 use Rattle.std.specs.Prelude.{◌≡◌, ◌≢◌, ℕ, ◌<◌, ◌≤◌, List, ◌∷◌, ◌++◌, true}
 use Rattle.page_model.specs.declared.parts.PageParts.{PageParts}
-use Rattle.band_graph.specs.Needs.{is_need}
+use Rattle.band_core.specs.Needs.{is_need}
 use Rattle.band_claims.specs.declared.view.Look.{Look}
 use Rattle.band_claims.specs.Receipt.{Receipt}
 use Rattle.band_claims.specs.Rule.{piece_word}

@@ -2,8 +2,8 @@
 use Rattle.std.specs.Prelude.{◌≡◌, ℕ, ◌+◌, ◌*◌, ◌≤◌, min}
 use Rattle.row_values.specs.Room.{Room}
 use Rattle.page_model.specs.Columns.{halo}
-use Rattle.row_cells.specs.Layouts.{Layout, IsLayout}
-use Rattle.row_cells.specs.Places.{per_row}
+use Rattle.band_core.specs.Layouts.{Layout, IsLayout}
+use Rattle.band_core.specs.Places.{per_row}
 
 -- what contracts see of a worker's memory: the layout that it was made for, how many values of each
 -- phase there is memory for, and the room of the makers

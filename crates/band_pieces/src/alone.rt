@@ -1,7 +1,7 @@
 // What the workers left undone, made by one thread.
 ghost use Rattle.std.specs.Prelude.{◌≡◌, ℕ, ◌+◌, ◌<◌, ◌≤◌, ◌==◌, ◌&&◌, not, nat_lt, []};
-ghost use Rattle.band_board.specs.Runs.{Sound};
-ghost use Rattle.band_board.specs.TableWords.{AreWords, board_of};
+ghost use Rattle.band_core.specs.Runs.{Sound};
+ghost use Rattle.band_core.specs.TableWords.{AreWords, board_of};
 ghost use Rattle.band_claims.specs.Rule.{cell_word, piece_word};
 ghost use Rattle.band_claims.specs.TableKeys.{cell, shape_of};
 ghost use Rattle.band_claims.specs.Views.{one_if, times};
@@ -11,7 +11,7 @@ ghost use Rattle.page_model.specs.Bands.{pieces_of};
 use crate::scratch::Scratch;
 use crate::sinks::Alone;
 use band_claims::Closed;
-use band_graph::needs::pieces;
+use band_core::needs::pieces;
 use page_model::page::Page;
 
 /// Makes a piece that was left, whose needs are among the pieces before it.

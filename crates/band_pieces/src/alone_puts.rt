@@ -4,10 +4,10 @@ ghost use Rattle.band_claims.specs.TableKeys.{cell, shape_of};
 ghost use Rattle.band_pieces.specs.Fills.{FillsPiece, FillsTo};
 ghost use Rattle.band_claims.specs.Filled.{AreValues};
 ghost use Rattle.page_model.specs.Bands.{pieces_of};
-ghost use Rattle.row_cells.specs.Places.{cell_total, first_cell_of};
+ghost use Rattle.band_core.specs.Places.{cell_total, first_cell_of};
 
 use band_claims::{Closed, word_of_values};
-use row_cells::values::CellValue;
+use band_core::values::CellValue;
 
 /// Writes the defined word of cell number `o` of a piece, whose first `o` cells are filled.
 fn put_word(closed: &mut Closed, piece: u32, o: u32, word: u64)

@@ -3,18 +3,18 @@
 ghost use Rattle.std.specs.Prelude.{◌≡◌, ℕ, ◌*◌, ◌<◌, ◌≤◌, true, length};
 ghost use Rattle.band_claims.specs.TableKeys.{IsFit};
 ghost use Rattle.band_core.specs.Values.{IsFor};
-ghost use Rattle.band_graph.specs.Needs.{is_need};
+ghost use Rattle.band_core.specs.Needs.{is_need};
 ghost use Rattle.band_pieces.specs.Room.{IsRoom, most_rows};
 ghost use Rattle.row_values.specs.Room.{Serves};
 ghost use Rattle.page_model.specs.Bands.{phase_of, pieces_of};
 ghost use Rattle.page_model.specs.Columns.{halo};
-ghost use Rattle.row_cells.specs.Places.{per_row};
+ghost use Rattle.band_core.specs.Places.{per_row};
 
 use crate::rows::read_rows;
 use crate::sinks::CellSink;
 use crate::spans::{rows_below, rows_near, rows_of};
 use page_model::page::Page;
-use row_cells::layout::Layout;
+use band_core::layout::Layout;
 use row_values::{Workspace, make_answers, make_marks, make_tints, make_zones};
 
 /// The zones of a band, from the page alone.

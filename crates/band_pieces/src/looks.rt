@@ -9,7 +9,7 @@ ghost use Rattle.page_model.specs.Tints.{new};
 use crate::rows::{read_plate_row, read_rows};
 use crate::sources::CellSource;
 use page_model::page::Page;
-use row_cells::layout::Layout;
+use band_core::layout::Layout;
 use row_values::Rows;
 
 /// Reads the zones of these rows from the cells of their bands.

@@ -5,13 +5,13 @@ ghost use Rattle.band_claims.specs.Shares.{IsWhole};
 ghost use Rattle.band_claims.specs.Views.{Knows, Looks};
 ghost use Rattle.band_pieces.specs.Finished.{IsFinished};
 ghost use Rattle.band_pieces.specs.Undone.{FindsUndone};
-ghost use Rattle.band_workers.specs.Accounts.{IsAccounted};
+ghost use Rattle.band_claims.specs.Accounts.{IsAccounted};
 ghost use Rattle.page_model.specs.Bands.{pieces_of};
 
 use crate::alone::finish_alone;
 use crate::scratch::Scratch;
 use band_claims::{Closed, Pass, Reader, Shared};
-use band_graph::needs::pieces;
+use band_core::needs::pieces;
 use page_model::page::Page;
 
 /// Whether all pieces are done. If so the reader knows each of them afterwards; if not, `looked` ends with a piece that

@@ -3,13 +3,13 @@ ghost use Rattle.std.specs.Prelude.{◌≡◌, ℕ, ◌+◌, ◌-◌, ◌*◌, �
 ghost use Rattle.band_claims.specs.TableKeys.{IsFit};
 ghost use Rattle.band_core.specs.Values.{value};
 ghost use Rattle.page_model.specs.Bands.{phase_of, pieces_of};
-ghost use Rattle.row_cells.specs.Packing.{IsBits, lane, lanes as lanes_for};
-ghost use Rattle.row_cells.specs.Places.{bits_of, first_cell_of, lanes_of, value_total};
+ghost use Rattle.band_core.specs.Packing.{IsBits, lane, lanes as lanes_for};
+ghost use Rattle.band_core.specs.Places.{bits_of, first_cell_of, lanes_of, value_total};
 
 use crate::sources::CellSource;
-use row_cells::layout::{Layout, bits, lanes};
-use row_cells::packing::{unpack, without_lanes};
-use row_cells::values::CellValue;
+use band_core::layout::{Layout, bits, lanes};
+use band_core::packing::{unpack, without_lanes};
+use band_core::values::CellValue;
 
 /// Some values of a piece, from a number on, and the place that they are written to.
 #[derive(Clone, Copy, Drop)]

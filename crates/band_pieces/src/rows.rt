@@ -4,13 +4,13 @@ ghost use Rattle.band_claims.specs.TableKeys.{IsFit};
 ghost use Rattle.band_core.specs.Values.{row_value};
 ghost use Rattle.row_values.specs.Rows.{HoldsRows};
 ghost use Rattle.page_model.specs.Bands.{band_of_row, piece_of};
-ghost use Rattle.row_cells.specs.Places.{bits_of, per_row};
+ghost use Rattle.band_core.specs.Places.{bits_of, per_row};
 
 use crate::reading::{Run, read_values};
 use crate::sources::CellSource;
-use band_graph::needs::piece;
-use row_cells::layout::Layout;
-use row_cells::values::CellValue;
+use band_core::needs::piece;
+use band_core::layout::Layout;
+use band_core::values::CellValue;
 use row_values::Rows;
 
 /// Reads the values of a phase of row k of these rows.

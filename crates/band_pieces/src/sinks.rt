@@ -9,7 +9,7 @@ ghost use Rattle.band_pieces.specs.Fills.{FillsPiece, HasCells};
 use crate::alone_puts::put_values_alone;
 use crate::sources::CellSource;
 use band_claims::{Closed, Pass, Shared, put_values};
-use row_cells::values::CellValue;
+use band_core::values::CellValue;
 
 /// A table whose pieces can be filled, by a seat at it.
 pub(crate) trait CellSink<S>: CellSource<S> {

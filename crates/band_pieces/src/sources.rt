@@ -1,6 +1,6 @@
 // Tables whose cells can be read.
 ghost use Rattle.std.specs.Prelude.{◌≡◌, ℕ};
-ghost use Rattle.band_board.specs.Shapes.{Has};
+ghost use Rattle.band_core.specs.TableShapes.{Has};
 ghost use Rattle.band_claims.specs.declared.table_key.TableKey.{TableKey};
 ghost use Rattle.band_claims.specs.Seating.{Seats};
 ghost use Rattle.band_claims.specs.TableKeys.{cell, shape_of};

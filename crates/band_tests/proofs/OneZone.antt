@@ -8,10 +8,10 @@ use Rattle.page_model.specs.Conditions.{IsPage}
 use Rattle.page_model.specs.Zones.{zone_of}
 use Rattle.page_model.proofs.BandLemmas.{band_begins, band_of_piece, phase_of_piece}
 use Rattle.page_model.proofs.ZoneLemmas.{zone_of-is}
-use Rattle.row_cells.specs.Layouts.{Layout}
-use Rattle.row_cells.specs.Places.{per_row, lanes_of, bits_of, value_total, cell_total, first_cell_of, cells_of, piece_count}
-use Rattle.row_cells.proofs.Sums.{sum_at_most}
-use Rattle.band_board.specs.Shapes.{Has}
+use Rattle.band_core.specs.Layouts.{Layout}
+use Rattle.band_core.specs.Places.{per_row, lanes_of, bits_of, value_total, cell_total, first_cell_of, cells_of, piece_count}
+use Rattle.band_core.proofs.Sums.{sum_at_most}
+use Rattle.band_core.specs.TableShapes.{Has}
 use Rattle.band_core.specs.Values.{value, row_value}
 use Rattle.band_core.proofs.Bridges.{cell_packs, row_values}
 use Rattle.band_claims.specs.declared.table_key.TableKey.{TableKey}

@@ -6,7 +6,7 @@ use crate::expected::is_whole;
 use crate::tables::{bands_of, table, two_tiles};
 use band_claims::{Pass, Shared};
 use band_pieces::{Scratch, are_all_done, finish_alone};
-use band_workers::Maker;
+use band_claims::Maker;
 use page_model::page::Page;
 use page_model::parts::OutOfMemory;
 use std::alloc::Global;

@@ -1,4 +1,4 @@
-use band_graph::needs::{need_at, need_count, piece, pieces};
+use band_core::needs::{need_at, need_count, piece, pieces};
 use page_model::bands::Bands;
 use std::test::Fail;
 

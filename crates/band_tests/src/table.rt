@@ -12,7 +12,7 @@ use lists::names::OutOfMemory;
 use page_model::bands::Bands;
 use page_model::page::Page;
 use page_model::parts::{Ink, InkKind, PageParts, Plane, TrapParams, Zone};
-use row_cells::layout::Layout;
+use band_core::layout::Layout;
 use std::alloc::Global;
 use std::test::Fail;
 

@@ -10,7 +10,7 @@ use page_model::bands::Bands;
 use page_model::page::Page;
 use page_model::parts::OutOfMemory;
 use page_source::sample::sample_page;
-use row_cells::layout::Layout;
+use band_core::layout::Layout;
 use std::alloc::Global;
 
 /// Sixteen by eight samples: a tile of cyan beside a tile of black.

@@ -4,7 +4,7 @@ ghost use Rattle.std.specs.Prelude.{◌≤◌};
 use crate::memory::value_of;
 use crate::random_pages::{some_page, some_shape};
 use crate::slow_traps::same_traps;
-use band_workers::OpenGate;
+use band_claims::OpenGate;
 use page_model::page::Page;
 use std::alloc::Global;
 use std::process::Abort;

@@ -6,7 +6,7 @@ use Rattle.page_model.specs.declared.parts.TrapParams.{TrapParams}
 use Rattle.page_model.specs.declared.parts.Zone.{Zone}
 use Rattle.ps_tokens.specs.declared.faults.JobFault.{JobFault}
 use Rattle.ps_tokens.specs.declared.object.Object.{Object}
-use Rattle.zone_paths.specs.Paths.{Drawing, nothing_drawn}
+use Rattle.job_parts.specs.Paths.{Drawing, nothing_drawn}
 use Rattle.job_reader.specs.declared.state.State.{State}
 use Rattle.job_reader.specs.Calls.{Statement}
 use Rattle.job_reader.specs.InForce.{after_one, going_on, after_all, is_by}

@@ -10,10 +10,10 @@ use Rattle.ps_tokens.specs.declared.faults.JobFault.{JobFault}
 use Rattle.ps_tokens.specs.declared.parameters.Key.TheVariants.{Trapping}
 use Rattle.ps_tokens.specs.declared.object.Object.{Object}
 use Rattle.ps_tokens.specs.EntryErrors.{error_of, earlier}
-use Rattle.trap_params.specs.Applied.{params_after}
-use Rattle.trap_params.specs.Limits.{limits_after}
-use Rattle.trap_params.specs.Settings.{boolean_after}
-use Rattle.zone_paths.specs.Paths.{Drawing, nothing_drawn, moveto, lineto, rmoveto, rlineto, closepath}
+use Rattle.job_parts.specs.Applied.{params_after}
+use Rattle.job_parts.specs.Limits.{limits_after}
+use Rattle.job_parts.specs.Settings.{boolean_after}
+use Rattle.job_parts.specs.Paths.{Drawing, nothing_drawn, moveto, lineto, rmoveto, rlineto, closepath}
 use Rattle.job_reader.specs.declared.operators.Operator.{Operator}
 use Rattle.job_reader.specs.declared.operators.Operator.TheVariants.{SetPageDevice, SetTrapParams, NewPath, ClosePath, MoveTo, LineTo, RelativeMoveTo, RelativeLineTo, SetTrapZone, ShowPage}
 use Rattle.job_reader.specs.declared.state.State.{State}

@@ -10,7 +10,7 @@ use Rattle.ps_tokens.specs.declared.faults.FaultKind.TheVariants.{TooManyZones, 
 use Rattle.ps_tokens.specs.declared.faults.FaultKind.TheVariants.{NoPageDevice, NoShowpage}
 use Rattle.ps_tokens.specs.declared.faults.JobFault.{JobFault}
 use Rattle.ps_tokens.specs.declared.object.Object.{Object}
-use Rattle.zone_paths.specs.Paths.{Drawing, moveto, lineto, rmoveto, rlineto}
+use Rattle.job_parts.specs.Paths.{Drawing, moveto, lineto, rmoveto, rlineto}
 use Rattle.job_reader.specs.declared.operators.Operator.{Operator}
 use Rattle.job_reader.specs.declared.operators.Operator.TheVariants.{SetPageDevice, SetTrapParams}
 use Rattle.job_reader.specs.declared.operators.Operator.TheVariants.{NewPath, ClosePath, MoveTo}

@@ -15,11 +15,11 @@ use Rattle.ps_tokens.specs.declared.object.Object.{Object}
 use Rattle.ps_tokens.specs.Dictionaries.{last_of, last_keys_of, name_of}
 use Rattle.ps_tokens.specs.Values.{by_body}
 use Rattle.ps_tokens.proofs.Judged.{Reads, value_at-reads, entry_at-reads}
-use Rattle.colorant_details.specs.declared.ink_details.InkDetails.{InkDetails}
-use Rattle.colorant_details.specs.InkDetails.{density_in_range, density_in, density_of, kind_of, ink_details_from, ink_details_in, ink_details_of}
-use Rattle.colorant_details.specs.Colorants.{ink_if_given, inks_of}
-use Rattle.colorant_details.specs.Details.{details_of}
-use Rattle.colorant_details.proofs.Reaching.{details_of-inks}
+use Rattle.job_parts.specs.declared.ink_details.InkDetails.{InkDetails}
+use Rattle.job_parts.specs.InkDetails.{density_in_range, density_in, density_of, kind_of, ink_details_from, ink_details_in, ink_details_of}
+use Rattle.job_parts.specs.Colorants.{ink_if_given, inks_of}
+use Rattle.job_parts.specs.Details.{details_of}
+use Rattle.job_parts.proofs.Reaching.{details_of-inks}
 
 -- a neutral density from 0.001 to 10
 record IsDensity (n : ℕ) : Type 0 where

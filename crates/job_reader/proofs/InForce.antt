@@ -14,10 +14,10 @@ use Rattle.ps_tokens.specs.declared.object.Object.{Object}
 use Rattle.ps_tokens.specs.Dictionaries.{last_of}
 use Rattle.ps_tokens.specs.EntryErrors.{error_of}
 use Rattle.ps_tokens.specs.Values.{by_body, value_by, value_at, place_if_some, place_of_value}
-use Rattle.trap_params.specs.Limits.{limits_at}
+use Rattle.job_parts.specs.Limits.{limits_at}
 use Rattle.ps_tokens.specs.Parameters.{name_of}
-use Rattle.trap_params.specs.Settings.{number_of, boolean_of, number_after, boolean_after}
-use Rattle.colorant_details.specs.Details.{details_of}
+use Rattle.job_parts.specs.Settings.{number_of, boolean_of, number_after, boolean_after}
+use Rattle.job_parts.specs.Details.{details_of}
 use Rattle.job_reader.specs.declared.job.Job.{Job}
 use Rattle.job_reader.specs.declared.operators.Operator.{Operator}
 use Rattle.job_reader.specs.declared.operators.Operator.TheVariants.{SetPageDevice, SetTrapParams, NewPath, ClosePath, MoveTo, LineTo, RelativeMoveTo, RelativeLineTo, SetTrapZone, ShowPage}
@@ -27,8 +27,8 @@ use Rattle.job_reader.specs.Device.{resolution_in, resolution_after, details_at,
 use Rattle.job_reader.specs.InForce.{NoneShows, after_one, going_on, after_all, is_setpagedevice, is_settrapparams, is_by, value_of, named_by, resolution_in_force, trapping_in_force, details_in_force, number_in_force, boolean_in_force, params_in_force, limits_in_force}
 use Rattle.job_reader.specs.Jobs.{then_job, statement_then, read_from}
 use Rattle.page_model.specs.Parameters.{usual_params}
-use Rattle.trap_params.specs.Fields.{number_at, is_number}
-use Rattle.trap_params.proofs.FieldLemmas.{params_by-same, params_by-own}
+use Rattle.job_parts.specs.Fields.{number_at, is_number}
+use Rattle.job_parts.proofs.FieldLemmas.{params_by-same, params_by-own}
 use Rattle.job_reader.specs.Starts.{nothing_read}
 use Rattle.job_reader.specs.Statements.{state_after, job_shown}
 use Rattle.job_reader.proofs.Setting.{SetsDevice, SetsZones, others-left, device-left, params-left}

@@ -25,7 +25,7 @@ use Rattle.job_reader.specs.InRange.{IsJob}
 use Rattle.job_reader.specs.Jobs.{then_job, statement_then, read_from, job_of_objects, job_of_tokens, job_of}
 use Rattle.job_reader.specs.Starts.{nothing_read}
 use Rattle.job_reader.specs.Statements.{after_fault, fault, job_at, job_unless, state_after, job_shown, shown_fault, under_trapping, wants_device, zone_0}
-use Rattle.trap_params.proofs.FieldLemmas.{switched-in_range}
+use Rattle.job_parts.proofs.FieldLemmas.{switched-in_range}
 use Rattle.job_reader.proofs.StateRanges.{IsState, nothing_read-state, state_after-leaves}
 
 -- a job that is made, or a fault

@@ -19,9 +19,9 @@ use Rattle.ps_tokens.specs.EntryErrors.{unless}
 use Rattle.ps_tokens.specs.Objects.{is_dict}
 use Rattle.ps_tokens.specs.Values.{by_body}
 use Rattle.ps_tokens.proofs.Judged.{Reads, value_at-reads, entry_at-reads}
-use Rattle.trap_params.specs.Settings.{number_of}
-use Rattle.trap_params.specs.Limits.{AscendByName, step_given, step_by, step_in, step_of, limit_if_short, limits_of, first_error, limits_in, limits_at, limits_after}
-use Rattle.trap_params.proofs.Ascending.{limits-ascend}
+use Rattle.job_parts.specs.Settings.{number_of}
+use Rattle.job_parts.specs.Limits.{AscendByName, step_given, step_by, step_in, step_of, limit_if_short, limits_of, first_error, limits_in, limits_at, limits_after}
+use Rattle.job_parts.proofs.Ascending.{limits-ascend}
 use Rattle.job_reader.proofs.ParamRanges.{unless-is, number_of-within}
 use Rattle.page_model.specs.Limits.{longest_name}
 

@@ -14,12 +14,12 @@ use Rattle.ps_tokens.specs.Dictionaries.{inside_of, keys_of, keys_from, last_of,
 use Rattle.ps_tokens.specs.Values.{by_body, value_at}
 use Rattle.std.specs.Result.{result_unwrap_or}
 use Rattle.ps_tokens.specs.EntryErrors.{error_of, earlier}
-use Rattle.trap_params.specs.Applied.{number_set, enabled_set, params_after, params_set as params_given}
-use Rattle.trap_params.specs.Fields.{number_keys, number_at}
-use Rattle.trap_params.proofs.FieldLemmas.{Agree, each_number, params_by-same, params_by-own}
-use Rattle.trap_params.specs.Limits.{limits_after, limits_at}
+use Rattle.job_parts.specs.Applied.{number_set, enabled_set, params_after, params_set as params_given}
+use Rattle.job_parts.specs.Fields.{number_keys, number_at}
+use Rattle.job_parts.proofs.FieldLemmas.{Agree, each_number, params_by-same, params_by-own}
+use Rattle.job_parts.specs.Limits.{limits_after, limits_at}
 use Rattle.ps_tokens.specs.Parameters.{name_of}
-use Rattle.trap_params.specs.Settings.{number_of, boolean_of, number_after, boolean_after}
+use Rattle.job_parts.specs.Settings.{number_of, boolean_of, number_after, boolean_after}
 use Rattle.job_reader.specs.declared.operators.Operator.TheVariants.{SetPageDevice, SetTrapParams}
 use Rattle.job_reader.specs.declared.state.State.{State}
 use Rattle.job_reader.specs.Device.{details_at, details_in, device_from, device_set, resolution_after, resolution_in}

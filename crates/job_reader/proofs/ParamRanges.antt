@@ -17,10 +17,10 @@ use Rattle.ps_tokens.specs.EntryErrors.{unless}
 use Rattle.ps_tokens.specs.Parameters.{name_of, least_of, most_of}
 use Rattle.ps_tokens.specs.Values.{by_body, value_at}
 use Rattle.ps_tokens.proofs.Judged.{value_at-reads, unwrap-reads}
-use Rattle.trap_params.specs.Settings.{in_range, number_of, number_after}
-use Rattle.trap_params.specs.Applied.{number_set, enabled_set, params_after, first_error_of, params_set}
-use Rattle.trap_params.specs.Fields.{number_at, params_by}
-use Rattle.trap_params.proofs.FieldLemmas.{IsWithin, number_at-by, number_at-within, in_range-from}
+use Rattle.job_parts.specs.Settings.{in_range, number_of, number_after}
+use Rattle.job_parts.specs.Applied.{number_set, enabled_set, params_after, first_error_of, params_set}
+use Rattle.job_parts.specs.Fields.{number_at, params_by}
+use Rattle.job_parts.proofs.FieldLemmas.{IsWithin, number_at-by, number_at-within, in_range-from}
 
 -- what is read unless there is a fault is that
 pub unless-is : {X : Type 0} (m : Option EntryError) (x y : X) → unless m x ≡ Ok y → x ≡ y

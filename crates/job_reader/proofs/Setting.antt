@@ -14,12 +14,12 @@ use Rattle.ps_tokens.specs.declared.parameters.Key.TheVariants.{Trapping}
 use Rattle.ps_tokens.specs.declared.entry_errors.EntryError.{EntryError}
 use Rattle.ps_tokens.specs.declared.object.Object.{Object}
 use Rattle.ps_tokens.specs.EntryErrors.{error_of, earlier, unless}
-use Rattle.trap_params.specs.Applied.{number_set, enabled_set, first_error, first_error_of, params_after, params_set as params_given}
-use Rattle.trap_params.specs.Fields.{number_keys, number_at, is_number}
-use Rattle.trap_params.proofs.FieldLemmas.{each_number, number_at-by}
-use Rattle.trap_params.specs.Limits.{limits_after}
-use Rattle.trap_params.specs.Settings.{boolean_after}
-use Rattle.zone_paths.specs.Paths.{Drawing, nothing_drawn, moveto, lineto, rmoveto, rlineto, closepath}
+use Rattle.job_parts.specs.Applied.{number_set, enabled_set, first_error, first_error_of, params_after, params_set as params_given}
+use Rattle.job_parts.specs.Fields.{number_keys, number_at, is_number}
+use Rattle.job_parts.proofs.FieldLemmas.{each_number, number_at-by}
+use Rattle.job_parts.specs.Limits.{limits_after}
+use Rattle.job_parts.specs.Settings.{boolean_after}
+use Rattle.job_parts.specs.Paths.{Drawing, nothing_drawn, moveto, lineto, rmoveto, rlineto, closepath}
 use Rattle.job_reader.specs.declared.operators.Operator.{Operator}
 use Rattle.job_reader.specs.declared.operators.Operator.TheVariants.{SetPageDevice, SetTrapParams, NewPath, ClosePath, MoveTo, LineTo, RelativeMoveTo, RelativeLineTo, SetTrapZone, ShowPage}
 use Rattle.job_reader.specs.declared.state.State.{State}

@@ -23,13 +23,13 @@ use Rattle.ps_tokens.specs.Dictionaries.{last_of}
 use Rattle.ps_tokens.specs.EntryErrors.{error_of, earlier}
 use Rattle.ps_tokens.specs.Values.{value_at}
 use Rattle.ps_tokens.proofs.Judged.{value_at-reads, unwrap-reads}
-use Rattle.trap_params.specs.Applied.{params_after}
-use Rattle.trap_params.specs.Limits.{limits_after}
-use Rattle.trap_params.specs.Settings.{boolean_after}
-use Rattle.colorant_details.specs.Details.{details_of}
-use Rattle.zone_paths.specs.declared.pen.Pen.{Pen}
-use Rattle.zone_paths.specs.Paths.{Drawing, IsDrawing, IsPen, nothing_drawn, moveto, lineto, rmoveto, rlineto, closepath, closed_pen, from_pen, begun_at, lined_to, offset_point}
-use Rattle.zone_paths.proofs.Drawings.{begun_at-drawing, lined_to-drawing}
+use Rattle.job_parts.specs.Applied.{params_after}
+use Rattle.job_parts.specs.Limits.{limits_after}
+use Rattle.job_parts.specs.Settings.{boolean_after}
+use Rattle.job_parts.specs.Details.{details_of}
+use Rattle.job_parts.specs.declared.pen.Pen.{Pen}
+use Rattle.job_parts.specs.Paths.{Drawing, IsDrawing, IsPen, nothing_drawn, moveto, lineto, rmoveto, rlineto, closepath, closed_pen, from_pen, begun_at, lined_to, offset_point}
+use Rattle.job_parts.proofs.Drawings.{begun_at-drawing, lined_to-drawing}
 use Rattle.job_reader.specs.declared.operators.Operator.{Operator}
 use Rattle.job_reader.specs.declared.operators.Operator.TheVariants.{SetPageDevice, SetTrapParams, NewPath, ClosePath, MoveTo, LineTo, RelativeMoveTo, RelativeLineTo, SetTrapZone, ShowPage}
 use Rattle.job_reader.specs.declared.state.State.{State}

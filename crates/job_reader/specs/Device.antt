@@ -16,8 +16,8 @@ use Rattle.ps_tokens.specs.declared.object.Object.{Object}
 use Rattle.ps_tokens.specs.Dictionaries.{last_of}
 use Rattle.ps_tokens.specs.EntryErrors.{error_of, earlier, unless}
 use Rattle.ps_tokens.specs.Values.{value_at}
-use Rattle.trap_params.specs.Settings.{boolean_after}
-use Rattle.colorant_details.specs.Details.{details_of}
+use Rattle.job_parts.specs.Settings.{boolean_after}
+use Rattle.job_parts.specs.Details.{details_of}
 use Rattle.job_reader.specs.declared.state.State.{State}
 use Rattle.job_reader.specs.Operands.{number_at}
 use Rattle.page_model.specs.Limits.{most_resolution, scale}

@@ -14,10 +14,10 @@ use Rattle.ps_tokens.specs.declared.object.Object.{Object}
 use Rattle.ps_tokens.specs.Dictionaries.{last_of}
 use Rattle.ps_tokens.specs.Values.{by_body, value_at, place_of_value}
 use Rattle.page_model.specs.Parameters.{usual_params}
-use Rattle.trap_params.specs.Fields.{number_keys, number_at, params_by}
-use Rattle.trap_params.specs.Limits.{limits_at}
+use Rattle.job_parts.specs.Fields.{number_keys, number_at, params_by}
+use Rattle.job_parts.specs.Limits.{limits_at}
 use Rattle.ps_tokens.specs.Parameters.{name_of}
-use Rattle.trap_params.specs.Settings.{number_of, boolean_of}
+use Rattle.job_parts.specs.Settings.{number_of, boolean_of}
 use Rattle.job_reader.specs.declared.operators.Operator.{Operator}
 use Rattle.job_reader.specs.declared.operators.Operator.TheVariants.{SetPageDevice, SetTrapParams}
 use Rattle.job_reader.specs.declared.operators.Operator.TheVariants.{NewPath, ClosePath, MoveTo}

@@ -6,8 +6,8 @@ use Rattle.ps_tokens.specs.declared.faults.JobFault.{JobFault}
 use Rattle.ps_tokens.specs.declared.faults.JobRefusal.{JobRefusal}
 use Rattle.ps_tokens.specs.declared.faults.JobRefusal.TheVariants as refusals
 use Rattle.ps_tokens.specs.Tokens.{Fails}
-use Rattle.zone_paths.specs.declared.path.PathRefusal.{PathRefusal}
-use Rattle.zone_paths.specs.declared.path.PathRefusal.TheVariants as paths
+use Rattle.job_parts.specs.declared.path.PathRefusal.{PathRefusal}
+use Rattle.job_parts.specs.declared.path.PathRefusal.TheVariants as paths
 use Rattle.job_reader.specs.declared.state.State.{State}
 
 -- a call leaves what is meant to be in force, or refuses as is meant

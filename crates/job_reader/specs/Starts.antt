@@ -1,7 +1,7 @@
 -- What is in force before the first statement.
 use Rattle.std.specs.Prelude.{true, []}
 use Rattle.page_model.specs.Parameters.{usual_params}
-use Rattle.zone_paths.specs.Paths.{nothing_drawn}
+use Rattle.job_parts.specs.Paths.{nothing_drawn}
 use Rattle.job_reader.specs.declared.state.State.{State}
 
 -- no zone and no path, no resolution and no details, and traps with the usual parameters

@@ -11,10 +11,10 @@ use Rattle.ps_tokens.specs.declared.faults.FaultKind.TheVariants.{TooManyZones, 
 use Rattle.ps_tokens.specs.declared.faults.FaultKind.TheVariants.{AfterShowpage}
 use Rattle.ps_tokens.specs.declared.faults.JobFault.{JobFault}
 use Rattle.ps_tokens.specs.declared.object.Object.{Object}
-use Rattle.trap_params.specs.Applied.{params_after}
-use Rattle.trap_params.specs.Limits.{limits_after}
-use Rattle.zone_paths.specs.Paths.{Drawing, nothing_drawn, moveto, lineto, rmoveto, rlineto}
-use Rattle.zone_paths.specs.Paths.{closepath}
+use Rattle.job_parts.specs.Applied.{params_after}
+use Rattle.job_parts.specs.Limits.{limits_after}
+use Rattle.job_parts.specs.Paths.{Drawing, nothing_drawn, moveto, lineto, rmoveto, rlineto}
+use Rattle.job_parts.specs.Paths.{closepath}
 use Rattle.job_reader.specs.declared.job.Job.{Job}
 use Rattle.job_reader.specs.declared.drawing.Stroke.{Stroke}
 use Rattle.job_reader.specs.declared.drawing.Stroke.TheVariants as strokes

@@ -1,12 +1,12 @@
 ghost use Rattle.std.specs.Prelude.{◌≡◌, ◌<◌, ◌^◌, IfOk};
 ghost use Rattle.ps_tokens.specs.Dictionaries.{AreObjects};
-ghost use Rattle.colorant_details.specs.Details.{details_of};
+ghost use Rattle.job_parts.specs.Details.{details_of};
 ghost use Rattle.job_reader.specs.Device.{pixels_of, resolution_in, resolution_after, named_details, details_in, device_from, device_set};
 ghost use Rattle.job_reader.specs.Performing.{Performs};
 
 use crate::operands::number_at;
 use crate::state::State;
-use colorant_details::inks;
+use job_parts::inks;
 use page_model::bounds::{MOST_RESOLUTION, SCALE};
 use page_model::parts::{DetailList, OutOfMemory};
 use ps_tokens::entry_errors::{EntryError, at_place, earlier};
@@ -15,7 +15,7 @@ use ps_tokens::object::{Body, Object, ObjectList};
 use ps_tokens::parameters::Key;
 use ps_tokens::{last, last_value};
 use std::alloc::Global;
-use trap_params::settings::boolean_after;
+use job_parts::settings::boolean_after;
 
 // 1 in ten-thousandths, and the finest resolution in them.
 const ONE: u64 = SCALE as u64;

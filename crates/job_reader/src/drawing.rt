@@ -1,5 +1,5 @@
 ghost use Rattle.std.specs.Prelude.{◌≡◌, ◌<◌, ◌^◌};
-ghost use Rattle.zone_paths.specs.Refusals.{Draws};
+ghost use Rattle.job_parts.specs.Refusals.{Draws};
 ghost use Rattle.job_reader.specs.declared.operators.Operator.TheVariants.{NewPath, ClosePath};
 ghost use Rattle.job_reader.specs.Operands.{two_numbers};
 ghost use Rattle.job_reader.specs.Performing.{Performs, refusal_at};
@@ -9,7 +9,7 @@ use crate::operands::{two_numbers, wrong_operands};
 use crate::state::State;
 use ps_tokens::faults::{JobFault, JobRefusal};
 use ps_tokens::object::Object;
-use zone_paths::path::{Path, PathRefusal};
+use job_parts::path::{Path, PathRefusal};
 
 /// A path statement with two numbers (PLRM3, section 4.4).
 #[derive(Clone, Copy, Debug, Drop, PartialEq, Eq)]

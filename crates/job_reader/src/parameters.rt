@@ -1,6 +1,6 @@
 ghost use Rattle.std.specs.Prelude.{◌≡◌, Ok, IfSome, IfNone};
 ghost use Rattle.ps_tokens.specs.Dictionaries.{AreObjects};
-ghost use Rattle.trap_params.specs.Limits.{limits_after};
+ghost use Rattle.job_parts.specs.Limits.{limits_after};
 ghost use Rattle.job_reader.specs.Performing.{Performs, MayReplace};
 ghost use Rattle.job_reader.specs.Statements.{both_set, params_set};
 
@@ -10,7 +10,7 @@ use ps_tokens::faults::{JobFault, JobRefusal};
 use ps_tokens::last;
 use ps_tokens::object::ObjectList;
 use std::alloc::Global;
-use trap_params::{apply, zone_limits};
+use job_parts::{apply, zone_limits};
 
 /// Applies the dictionary of `settrapparams` that stands at `dict`: sets the trapping parameters that it names, and the
 /// step limits where it names ColorantZoneDetails (after PLRM3, sections 6.3 and 8.2, in this project's profile).

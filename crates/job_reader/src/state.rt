@@ -4,7 +4,7 @@ ghost use Rattle.job_reader.specs.Starts.{nothing_read};
 use lists::list::List;
 use page_model::parts::{DetailList, LimitList, TrapParams, ZoneList};
 use std::alloc::Global;
-use zone_paths::path::Path;
+use job_parts::path::Path;
 
 /// What is in force at a statement, the zones that were made so far, and how many vertices these have in all.
 #[derive(Drop)]

@@ -6,7 +6,7 @@ use page_model::bounds::{MOST_JOB_ZONES, MOST_VERTICES_IN_ALL};
 use page_model::parts::{OutOfMemory, Zone};
 use ps_tokens::faults::{FaultKind, JobFault, JobRefusal};
 use std::alloc::Global;
-use trap_params::limits::copy_of;
+use job_parts::limits::copy_of;
 
 /// `settrapzone` at the offset `at`: adds a zone of the current path, with the parameters and limits in force, and
 /// empties the path (after PLRM3, sections 6.3 and 8.2, in this project's profile).

@@ -2,7 +2,7 @@ ghost use Rattle.std.specs.Prelude.{◌≤◌, length};
 ghost use Rattle.ps_tokens.specs.Limits.{longest_job};
 
 use crate::reading::read;
-use colorant_details::inks;
+use job_parts::inks;
 use page_model::parts::{DetailList, Ink};
 use ps_tokens::LONGEST_JOB;
 use ps_tokens::faults::{JobFault, JobRefusal};

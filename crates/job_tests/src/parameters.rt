@@ -10,7 +10,7 @@ use ps_tokens::parameters::Key;
 use std::alloc::{AllocError, Global};
 use std::process::Abort;
 use std::test::Fail;
-use trap_params::{apply, zone_limits};
+use job_parts::{apply, zone_limits};
 
 // A dictionary, and the parameters after it.
 static SETTINGS: [(&[u8], TrapParams); 18] = [

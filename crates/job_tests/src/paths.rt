@@ -2,7 +2,7 @@ use page_model::parts::VertexList;
 use std::alloc::{AllocError, Global};
 use std::process::Abort;
 use std::test::Fail;
-use zone_paths::path::{Path, PathRefusal};
+use job_parts::path::{Path, PathRefusal};
 
 #[derive(Clone, Copy, Drop)]
 enum Step {

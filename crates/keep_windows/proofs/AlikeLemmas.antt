@@ -8,10 +8,10 @@ use Rattle.page_model.specs.declared.parts.Zone.{Zone}
 use Rattle.page_model.specs.Density.{shut, shuts, spreads}
 use Rattle.page_model.specs.Page.{height, ink_at, maxval, params_at, plates, tint, width}
 use Rattle.page_model.specs.Zones.{zone_of}
-use Rattle.sheet_windows.specs.declared.cuts.Cut.{Cut}
-use Rattle.sheet_windows.specs.Windows.{IsCut, on_sheet, window}
-use Rattle.sheet_windows.proofs.Parts.{Lies, maxval-same, plates-same, tint-same, zone_at-is}
-use Rattle.sheet_windows.proofs.Zones.{zone_of-same}
+use Rattle.sheet_geometry.specs.declared.cuts.Cut.{Cut}
+use Rattle.sheet_geometry.specs.Windows.{IsCut, on_sheet, window}
+use Rattle.sheet_geometry.proofs.Parts.{Lies, maxval-same, plates-same, tint-same, zone_at-is}
+use Rattle.sheet_geometry.proofs.Zones.{zone_of-same}
 use Rattle.keepaway.specs.Keepaway.{is_black_ink, is_open, level, plate_level, tint_level}
 
 greatest_below-same : (f g : ℕ → ℕ) (n : ℕ) → ((k : ℕ) → f k ≡ g k) → greatest_below f n ≡ greatest_below g n

@@ -9,10 +9,10 @@ use Rattle.page_model.specs.declared.parts.At.{At}
 use Rattle.page_model.specs.declared.parts.PageParts.{PageParts}
 use Rattle.page_model.specs.Page.{height, tint, width}
 use Rattle.page_model.specs.Zones.{zone_of}
-use Rattle.sheet_windows.specs.declared.cuts.Cut.{Cut}
-use Rattle.sheet_windows.specs.Windows.{IsCut, on_sheet, window}
-use Rattle.sheet_windows.specs.WindowLaw.{IsInside}
-use Rattle.sheet_windows.proofs.Parts.{Lies, height-is, tint-same, width-is}
+use Rattle.sheet_geometry.specs.declared.cuts.Cut.{Cut}
+use Rattle.sheet_geometry.specs.Windows.{IsCut, on_sheet, window}
+use Rattle.sheet_geometry.specs.WindowLaw.{IsInside}
+use Rattle.sheet_geometry.proofs.Parts.{Lies, height-is, tint-same, width-is}
 use Rattle.draw_back.specs.Drawn.{Scene, IsDrawn, distance2, drawn, is_source}
 use Rattle.draw_back.proofs.DrawnLemmas.{drawn_is, drawn_only}
 use Rattle.draw_back.proofs.SourceLemmas.{source_columns, source_rows}

@@ -2,9 +2,9 @@
 use Rattle.std.specs.Prelude.{◌≡◌, ℕ, ◌+◌, ◌*◌}
 use Rattle.page_model.specs.declared.parts.At.{At}
 use Rattle.page_model.specs.declared.parts.PageParts.{PageParts}
-use Rattle.sheet_windows.specs.declared.cuts.Cut.{Cut}
-use Rattle.sheet_windows.specs.Windows.{on_sheet, window}
-use Rattle.sheet_windows.specs.WindowLaw.{IsInside}
+use Rattle.sheet_geometry.specs.declared.cuts.Cut.{Cut}
+use Rattle.sheet_geometry.specs.Windows.{on_sheet, window}
+use Rattle.sheet_geometry.specs.WindowLaw.{IsInside}
 use Rattle.keepaway.specs.declared.parts.RichBlack.{RichBlack}
 use Rattle.keepaway.specs.Keepaway.{covered, kept}
 

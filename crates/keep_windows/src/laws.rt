@@ -3,8 +3,8 @@
 ghost use Rattle.std.specs.Prelude.{◌+◌, ◌<◌, ℕ};
 ghost use Rattle.lists.specs.Words.{square};
 ghost use Rattle.page_model.specs.declared.parts.PageParts.{PageParts};
-ghost use Rattle.sheet_windows.specs.declared.cuts.Cut.{Cut};
-ghost use Rattle.sheet_windows.specs.Windows.{IsCut};
+ghost use Rattle.sheet_geometry.specs.declared.cuts.Cut.{Cut};
+ghost use Rattle.sheet_geometry.specs.Windows.{IsCut};
 ghost use Rattle.keepaway.specs.declared.parts.RichBlack.{RichBlack};
 ghost use Rattle.keepaway.specs.Keepaway.{near_limit};
 ghost use Rattle.keep_windows.specs.KeepWindows.{KeepWindowLaw};

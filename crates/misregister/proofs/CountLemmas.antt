@@ -7,7 +7,7 @@ use Rattle.std.proofs.Math.Seq.{take-length}
 use Rattle.std.proofs.lemmas.List.Sums.{count_by_more_yes, count_by_more_no}
 use Rattle.page_model.specs.declared.parts.Plane.{Plane}
 use Rattle.lists.specs.Words.{any_below, count_below}
-use Rattle.plane_shapes.specs.Shapes.{wide, tall}
+use Rattle.page_model.specs.Shapes.{wide, tall}
 use Rattle.misregister.specs.Risk.{all_below, is_bare, can_bare, is_at_risk, risk}
 use Rattle.misregister.specs.Sweep.{at, bit, shade, least_shade}
 

@@ -5,7 +5,7 @@ use Rattle.std.proofs.lemmas.Bool.Decides.{nat_tests}
 use Rattle.std.specs.declared.alloc.Global.{Global}
 use Rattle.std.specs.declared.vec.Vec.{Vec}
 use Rattle.page_model.specs.declared.parts.Plane.{Plane}
-use Rattle.plane_shapes.specs.Shapes.{wide, tall}
+use Rattle.page_model.specs.Shapes.{wide, tall}
 use Rattle.misregister.specs.declared.room.Room.{Room}
 use Rattle.misregister.specs.Risk.{is_bare, is_near, bares_in_row, can_bare}
 use Rattle.misregister.specs.Sweep.{at, bit, is_clear, shade, IsRowPut, IsUnderWay}

@@ -4,7 +4,7 @@ use Rattle.std.proofs.lemmas.Bool.{cases_Bool, cases_eq, and_parts, and_from, or
 use Rattle.page_model.specs.declared.parts.Plane.{Plane}
 use Rattle.lists.specs.Words.{any_below, count_below}
 use Rattle.lists.proofs.Sums.{any_below-at}
-use Rattle.plane_shapes.specs.Shapes.{wide, tall}
+use Rattle.page_model.specs.Shapes.{wide, tall}
 use Rattle.misregister.specs.Risk.{all_below, is_bare, is_near, bares_in_row, can_bare, is_inked, is_at_risk, risk}
 
 -- a place that passes is found

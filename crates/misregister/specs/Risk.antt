@@ -4,7 +4,7 @@ use Rattle.std.specs.Prelude.{List, length, slice_index}
 use Rattle.page_model.specs.declared.parts.Plane.{Plane}
 use Rattle.page_model.specs.Planes.{tints_of}
 use Rattle.lists.specs.Words.{any_below, count_below, gap}
-use Rattle.plane_shapes.specs.Shapes.{wide, tall}
+use Rattle.page_model.specs.Shapes.{wide, tall}
 
 -- whether each number below n passes the test
 abbrev pub all_below : (ℕ → Bool) → ℕ → Bool

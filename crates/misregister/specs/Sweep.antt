@@ -2,7 +2,7 @@
 use Rattle.std.specs.Prelude.{◌≡◌, ℕ, zero, suc, ◌+◌, ◌*◌, Bool, ◌<◌, ◌≤◌, ◌==◌, min, nat_lt}
 use Rattle.std.specs.Prelude.{vec_capacity, vec_len, List, slice_index, if◌then◌else◌}
 use Rattle.page_model.specs.declared.parts.Plane.{Plane}
-use Rattle.plane_shapes.specs.Shapes.{wide, tall}
+use Rattle.page_model.specs.Shapes.{wide, tall}
 use Rattle.misregister.specs.declared.room.Room.{Room}
 use Rattle.misregister.specs.Risk.{is_bare, bares_in_row, can_bare}
 

@@ -1,5 +1,5 @@
 ghost use Rattle.std.specs.Prelude.{◌≡◌, ◌+◌, ◌<◌, ◌≤◌, ◌*◌, ◌==◌, ℕ, count_by, length, slice_index};
-ghost use Rattle.plane_shapes.specs.Shapes.{wide, tall};
+ghost use Rattle.page_model.specs.Shapes.{wide, tall};
 ghost use Rattle.misregister.specs.Risk.{risk};
 ghost use Rattle.misregister.specs.Limits.{most_radius};
 

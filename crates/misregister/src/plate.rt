@@ -1,7 +1,7 @@
 // One plate of a sheet, row by row.
 
 ghost use Rattle.std.specs.Prelude.{◌≡◌, ◌+◌, ◌-◌, ◌<◌, ◌≤◌, ◌*◌, ℕ, List, min, nat_lt, length, slice_index, if◌then◌else◌};
-ghost use Rattle.plane_shapes.specs.Shapes.{wide, tall};
+ghost use Rattle.page_model.specs.Shapes.{wide, tall};
 ghost use Rattle.misregister.specs.Sweep.{HasRoom, IsRowPut, IsUnderWay, KeepsMemory, at, shade};
 ghost use Rattle.misregister.specs.Limits.{most_radius};
 

@@ -1,7 +1,7 @@
 ghost use Rattle.std.specs.Prelude.{◌≡◌, ◌+◌, ◌<◌, ◌≤◌, ◌*◌, ℕ, length, slice_range, slice_index};
 ghost use Rattle.page_model.specs.Limits.{most_plates, most_side};
 ghost use Rattle.page_model.specs.Planes.{tints_of};
-ghost use Rattle.plane_shapes.specs.Shapes.{AreOneShape, wide, tall};
+ghost use Rattle.page_model.specs.Shapes.{AreOneShape, wide, tall};
 ghost use Rattle.misregister.specs.Risk.{is_bare};
 ghost use Rattle.misregister.specs.Sweep.{bit};
 
@@ -19,7 +19,7 @@ pub struct Sheet<'a> {
 impl<'a> Model for Sheet<'a> {
     ghost use Rattle.std.specs.Prelude.{List};
     ghost use Rattle.page_model.specs.declared.parts.Plane.{Plane};
-    ghost use Rattle.plane_shapes.specs.Shapes.{AreOneShape};
+    ghost use Rattle.page_model.specs.Shapes.{AreOneShape};
 
     ghost Value = { List Plane };
 

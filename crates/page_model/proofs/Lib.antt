@@ -19,3 +19,4 @@ pub mod MarkLemmas
 pub mod TintLemmas
 pub mod NumberSums
 pub mod EdgeSums
+pub mod ShapeLemmas

@@ -22,3 +22,4 @@ pub mod Tints
 pub mod Trapped
 pub mod Within
 pub mod Zones
+pub mod Shapes

@@ -1,4 +1,4 @@
-//! A page: its plates' planes, its inks and its zones, the lists that they are kept in, and the rule of its traps.
+//! Planes of one shape: what the planes of a page are, before it is trapped and after.
 #![tactic(auto)]
 
 pub mod arms;
@@ -12,4 +12,5 @@ pub mod page;
 pub mod parts;
 pub mod planes;
 pub mod reach;
+pub mod shape_laws;
 pub mod steps;

@@ -9,15 +9,15 @@ use Rattle.page_model.specs.declared.parts.Plane.{Plane}
 use Rattle.page_model.specs.Conditions.{IsPage}
 use Rattle.page_model.specs.Counts.{page_counts}
 use Rattle.page_model.specs.Tints.{trapped_planes}
-use Rattle.page_writing.specs.Files.{names_of}
-use Rattle.page_writing.specs.Writing.{WritesPage, AnswersWriting, FailsOnce, FinishesAll}
-use Rattle.page_writing.proofs.Steps.{page_names}
+use Rattle.page_files.specs.Files.{names_of}
+use Rattle.page_files.specs.Writing.{WritesPage, AnswersWriting, FailsOnce, FinishesAll}
+use Rattle.page_files.proofs.Steps.{page_names}
 use Rattle.trap_engine.specs.Receipts.{IsWholeReceipt}
 use Rattle.refusals.specs.declared.refusal.Refusal.{Refusal}
 use Rattle.refusals.specs.declared.refusal.Refusal.TheVariants.{Usage, Job, NoDetails, Plate, Page, Read, Write, Memory}
 use Rattle.trap_report.specs.Report.{report_of}
 use Rattle.page_output.specs.Output.{AnswersPut, PutsOut}
-use Rattle.verdicts.specs.Verdicts.{Targets, outcome, written_names}
+use Rattle.page_files.specs.Verdicts.{Targets, outcome, written_names}
 
 -- what the answer of the writing becomes, where the page's receipt is handed out
 abbrev pub handed : Receipt → Result (Unit {0}) Refusal → Result Receipt Refusal

@@ -5,11 +5,11 @@ use Rattle.outside.specs.Causes.{Asks, AsksPrefix}
 use Rattle.outside.specs.Rack.{RackState, KeepsRack}
 use Rattle.page_model.specs.declared.parts.PageParts.{PageParts}
 use Rattle.page_model.specs.Conditions.{IsPage}
-use Rattle.page_writing.specs.Writing.{WritesAll, Breaks, FailsOnce, FinishesAll}
+use Rattle.page_files.specs.Writing.{WritesAll, Breaks, FailsOnce, FinishesAll}
 use Rattle.trap_engine.specs.Receipts.{IsWholeReceipt}
 use Rattle.refusals.specs.declared.refusal.Refusal.{Refusal}
 use Rattle.refusals.specs.declared.refusal.Refusal.TheVariants.{Write, Memory}
-use Rattle.verdicts.specs.Verdicts.{Targets, outcome, written_names}
+use Rattle.page_files.specs.Verdicts.{Targets, outcome, written_names}
 
 -- the files of these names
 abbrev pub targets : List (List ℕ) → List ℕ → Targets

@@ -6,7 +6,7 @@ ghost use Rattle.trap_engine.specs.Receipts.{IsWholeReceipt};
 ghost use Rattle.trap_report.specs.Report.{AreCounts, report_of};
 
 use band_claims::Closed;
-use band_workers::Gate;
+use band_claims::Gate;
 use page_model::page::Page;
 use page_model::parts::{Name, OutOfMemory, PlaneList};
 use std::alloc::Global;

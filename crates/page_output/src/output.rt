@@ -5,11 +5,11 @@ ghost use Rattle.page_output.specs.Output.{PutsOut, targets};
 
 use crate::outcome::outcome_of;
 use band_claims::Closed;
-use band_workers::Gate;
+use band_claims::Gate;
 use outside::rack::Rack;
 use page_model::laws::trapped_planes_law;
 use page_model::page::Page;
-use page_writing::writing::write_page;
+use page_files::writing::write_page;
 use refusals::refusal::Refusal;
 use std::alloc::Global;
 use std::convert::AsStr;
@@ -27,7 +27,7 @@ pub struct OutputArgs<'a, S> {
 
 /// Traps the page, writes its files, and returns the receipt. All memory is allocated before the first file is created.
 ///
-/// The refusal is `Memory`, which leaves all files as they were, or `Write`, as `page_writing::write_page` gives it.
+/// The refusal is `Memory`, which leaves all files as they were, or `Write`, as `page_files::write_page` gives it.
 pub fn put_out<H: Threads + Sync, S: AsStr, R: Rack, G: Gate + Sync>(
     rt: &H,
     alloc: Global,

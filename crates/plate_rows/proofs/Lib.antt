@@ -4,3 +4,4 @@ pub mod ReadLemmas
 pub mod StopLemmas
 pub mod WriteLemmas
 pub mod JudgedLemmas
+mod ShareLemmas

@@ -3,7 +3,7 @@
 
 use outside::disk_rack::DiskRack;
 use outside::disk_tray::DiskTray;
-use press_check::top::presscheck_main;
+use presscheck_cli::top::presscheck_main;
 use refusals::words::words;
 use std::process::ExitCode;
 

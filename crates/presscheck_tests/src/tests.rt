@@ -7,7 +7,7 @@ use lists::list::List;
 use outside::mem_file::FileList;
 use outside::mem_rack::MemRack;
 use outside::mem_tray::MemTray;
-use press_check::top::presscheck_main;
+use presscheck_cli::top::presscheck_main;
 use std::alloc::Global;
 use std::process::Abort;
 use test_files::{CYAN, DISABLED, INKS, MAGENTA, WIDE, put_file, rack_of, tray_of, words_of};

@@ -1,6 +1,6 @@
 -- New tints by rows.
 use Rattle.std.proofs.Common.{◌≡◌, ℕ, ◌+◌, ◌*◌, List, ◌++◌, sym, ap, ◌∙◌, arith}
-use Rattle.bare_sheets.specs.StripCores.{new_from}
+use Rattle.sheet_geometry.specs.StripCores.{new_from}
 use Rattle.lists.specs.Words.{list_below}
 use Rattle.lists.proofs.ListBelow.{list_below-add}
 use Rattle.lists.proofs.Same.{list_below-same}

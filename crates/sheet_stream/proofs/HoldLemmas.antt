@@ -2,17 +2,17 @@
 use Rattle.std.proofs.Common.{◌≡◌, ℕ, zero, suc, ◌+◌, ◌-◌, ◌*◌, ◌<◌, ◌≤◌, List, [], ◌∷◌, ◌++◌, length, map, get_or, drop, take, refl, sym, ap, ◌∙◌, subst, arith, length-append, length-drop}
 use Rattle.std.proofs.Math.Nat.{mul-le-mul}
 use Rattle.std.proofs.lemmas.List.{drop-append-le, get_or-map, get_or_default, length-map, length-replicate, take-append-drop, take_all, take_at}
-use Rattle.bare_sheets.specs.StripRows.{rows_of}
-use Rattle.bare_sheets.proofs.BareLemmas.{height_is, maxval_is, plates_is, width_is}
-use Rattle.bare_sheets.proofs.StripLemmas.{planes_are}
+use Rattle.sheet_geometry.specs.StripRows.{rows_of}
+use Rattle.sheet_geometry.proofs.BareLemmas.{height_is, maxval_is, plates_is, width_is}
+use Rattle.sheet_geometry.proofs.CoreStripLemmas.{planes_are}
 use Rattle.page_model.specs.declared.parts.PageParts.{PageParts}
 use Rattle.page_model.specs.declared.parts.Plane.{Plane}
 use Rattle.page_model.specs.Page.{height, maxval, plates, width}
 use Rattle.page_model.specs.Planes.{no_plane, plane_at, tints_of}
-use Rattle.sheet_stream.specs.Strips.{StripIsMade, blank_plane}
-use Rattle.sheet_windows.specs.Strips.{strip_parts}
-use Rattle.sheet_windows.specs.Windows.{moved_zone, points_of}
-use Rattle.bare_sheets.specs.Bare.{IsBareSheet}
+use Rattle.sheet_stream.specs.HeldStrips.{StripIsMade, blank_plane}
+use Rattle.sheet_geometry.specs.Strips.{strip_parts}
+use Rattle.sheet_geometry.specs.Windows.{moved_zone, points_of}
+use Rattle.sheet_geometry.specs.Bare.{IsBareSheet}
 use Rattle.sheet_stream.specs.Holding.{AreCopied, AreKept, HaveRoomFor, HoldRowsFrom, HoldsStrip, NoneAreHeld, behind}
 
 drop_more : {X : Type 0} (m n : ℕ) (xs : List X) → drop (m + n) xs ≡ drop n (drop m xs)

@@ -1,185 +1,140 @@
--- The rows of the next strip are read behind those that are kept.
-use Rattle.std.proofs.Common.{◌≡◌, ℕ, suc, ◌+◌, ◌-◌, ◌*◌, ◌<◌, ◌≤◌, List, [], ◌∷◌, ◌++◌, length, drop, Ok, refl, sym, ap, ◌∙◌, subst, arith, length-drop}
-use Rattle.std.specs.List.{All}
+-- The next strip of a sheet is read, behind those rows of it that the strip at hand has too.
+use Rattle.std.proofs.Common.{◌≡◌, ◌⊎◌, ℕ, ◌+◌, ◌*◌, ◌-◌, ◌<◌, ◌≤◌, List, length, Ok, Err, sym, ap, ◌∙◌, subst, arith, length-drop}
 use Rattle.std.proofs.Math.Nat.{mul-le-mul}
-use Rattle.std.proofs.lemmas.List.{length-map, map-append}
+use Rattle.std.proofs.lemmas.List.{length-map}
+use Rattle.sheet_geometry.specs.Begun.{BeginsWith}
 use Rattle.outside.specs.Tray.{TrayState}
 use Rattle.page_model.specs.declared.parts.PageParts.{PageParts}
+use Rattle.page_model.specs.declared.parts.Plane.{Plane}
 use Rattle.page_model.specs.Page.{height, maxval, plates, width}
 use Rattle.page_model.specs.Planes.{tints_of}
-use Rattle.pgm_plates.specs.declared.header.Header.{Header}
 use Rattle.pgm_plates.specs.declared.rows.OpenPlate.{OpenPlate}
-use Rattle.plate_rows.specs.Laws.{AreReadTo}
-use Rattle.plate_rows.specs.Rereading.{HaveRead, new_rows, turned, wanted}
-use Rattle.plate_rows.specs.Trays.{open_at}
-use Rattle.plate_rows.proofs.StopLemmas.{reading_grows}
-use Rattle.sheet_stream.specs.Holding.{AreKept, HaveRoomFor, HoldRowsFrom, behind}
-use Rattle.sheet_stream.specs.Reading.{GoOn, HaveHeader, HoldsRead, ReadsStrip, rows_after, tints_for}
-use Rattle.sheet_stream.proofs.HoldLemmas.{next_held, none_held}
+use Rattle.plate_rows.specs.Laws.{header_of}
+use Rattle.plate_rows.specs.Rereading.{IsReadTo, StopsBegun}
+use Rattle.plate_rows.specs.Trays.{open_at, tray_at}
+use Rattle.plate_rows.specs.declared.stop.RereadError.{RereadError}
+use Rattle.sheet_stream.specs.declared.rows.Progress.{Progress}
+use Rattle.sheet_stream.specs.Going.{IsNextRow, IsStripRow}
+use Rattle.sheet_stream.specs.Reading.{HoldsTo, ReadsRow}
+use Rattle.sheet_stream.specs.Strips.{CanStream, IsSomeStrip}
+use Rattle.sheet_stream.proofs.AtHand.{begins, rulers, sheet, strip_cuttable}
+use Rattle.sheet_stream.proofs.GoingLemmas.{hand_of}
+use Rattle.sheet_stream.proofs.OnSheets.{earlier, may_begin}
+use Rattle.sheet_stream.proofs.RowReads.{GoOnTo, both_fit, read_on, read_to, stopped}
+use Rattle.sheet_stream.specs.Holding.{AreAlike, HaveRoomFor, HoldRowsFrom}
+use Rattle.sheet_stream.specs.RowReading.{HaveHeader, HoldsRead, tints_for}
+use Rattle.sheet_stream.specs.HeldStrips.{IsStripOf}
+use Rattle.sheet_stream.proofs.TurnLemmas.{turned_is}
+use Rattle.sheet_geometry.specs.declared.spans.Span.{Span}
+use Rattle.sheet_geometry.specs.Spans.{even_wide}
+use Rattle.sheet_stream.specs.declared.parts.StripPlan.{StripPlan}
+use Rattle.sheet_geometry.specs.WindowSheets.{IsCuttable}
 
--- values that are turned and turned back
-turned_back : (m : ℕ) (values : List ℕ) → All (λ v. v ≤ m) values → turned m (turned m values) ≡ values
-turned_back m [] all = refl
-turned_back m (v ∷ values) all =
-    let first : v ≤ m = all 0 v (omega arith) in
-    let back : m - (m - v) ≡ v = omega (arith, first) in
-    (λ i. back i ∷ turned_back m values (λ k d l. all (suc k) d (omega (arith, l))) i)
+-- the room of a strip, whatever rows it shows
+pub room_of_strip : (bare : PageParts) (plan : StripPlan) (strip : PageParts) → IsSomeStrip bare plan strip → HaveRoomFor bare (even_wide plan.down) strip.planes
+room_of_strip bare plan strip is = subst (λ (n : ℕ). HaveRoomFor bare n strip.planes) is.tall is.is_strip.planes
 
-module _ (inputs : List (List ℕ)) (bare : PageParts) (begun : List OpenPlate) (from next rows : ℕ) (start before after : List TrayState) (old new : PageParts) (header : HaveHeader bare begun) (holds : HoldsRead inputs bare begun from rows start before old.planes) (low : from ≤ next) (high : next ≤ from + rows) (inside : next + rows ≤ height bare) (reads : ReadsStrip begun (rows_after bare from rows next) ((next - from) * width bare) old new before after (Ok tt)) where
-  abbrev kept : ℕ
-  kept = (from + rows - next) * width bare
+-- The next strip, of these rows, is read behind those of the strip at hand.
+module _ (bare : PageParts) (plan : StripPlan) (begun : List OpenPlate) (p : Progress) (row : Span) (can : CanStream bare plan) (headers : HaveHeader bare begun) (next : IsNextRow plan.down p row) (strip : PageParts) (at_hand : IsSomeStrip bare plan strip) where
+  next_inside : row.from + row.wide ≤ height bare
+  next_inside = (let a = next.span.inside in let t = can.rulers.tall in omega (arith, a, t))
 
-  in_bare : (k : ℕ) → k < length begun → k < plates bare
-  in_bare k l = (let e = header.count in omega (arith, l, e))
+  hand : IsStripRow plan.down row
+  hand = hand_of plan.down p row next
 
-  in_begun : (k : ℕ) → k < plates bare → k < length begun
-  in_begun k l = (let e = header.count in omega (arith, l, e))
+  strip_room_is : HaveRoomFor bare (even_wide plan.down) strip.planes
+  strip_room_is = room_of_strip bare plan strip at_hand
 
-  in_old : (k : ℕ) → k < plates bare → k < length old.planes
-  in_old k l = (let e = holds.held.count in omega (arith, l, e))
-
-  samples_long : (k : ℕ) → k < plates bare → length (holds.samples k) ≡ (from + rows) * width bare
-  samples_long k l = sym (length-map (holds.samples k) (λ (v : ℕ). maxval bare - v)) ∙ holds.held.read k l
-
-  old_long : (k : ℕ) → k < plates bare → length (tints_of reads.copied k) ≡ rows * width bare
-  old_long k l =
-      let e = ap length (holds.held.held k l) in
-      let d = length-drop (from * width bare) (tints_for bare holds.samples k) in
-      let r = holds.held.read k l in
-      (reads.common.each k (in_old k l)).form.full ∙ (let long : length (tints_of old.planes k) ≡ rows * width bare = omega (arith, e, d, r) in long)
-
-  -- how many tints are kept, and how many are read
-  parts : (next - from) * width bare + kept ≡ rows * width bare
-  parts = (let e : (next - from) + (from + rows - next) ≡ rows = omega (arith, low, high) in let m : ((next - from) + (from + rows - next)) * width bare ≡ rows * width bare = ap (λ (n : ℕ). n * width bare) e in omega (arith, m))
-
-  later : from * width bare + (next - from) * width bare ≡ next * width bare
-  later = (let e : from + (next - from) ≡ next = omega (arith, low) in let m : (from + (next - from)) * width bare ≡ next * width bare = ap (λ (n : ℕ). n * width bare) e in omega (arith, m))
-
-  are_read : AreReadTo begun holds.samples ((from + rows) * width bare) (wanted kept reads.copied)
-  are_read = record {
-    count = λ k l. samples_long k (in_bare k l);
-    room = λ k l. (let long = old_long k (in_bare k l) in
-        let h = ap (λ (h : Header). h.width * h.height) (header.each k l) in
-        let m : (next + rows) * width bare ≤ height bare * width bare = mul-le-mul inside (omega arith) in
-        let p = parts in let q = later in omega (arith, long, h, m, p, q));
+  -- what was read, wherever that began, of the strip at hand as if it were turned
+  abbrev pub turned_holds : (turned : PageParts) (inputs : List (List ℕ)) (start now : List TrayState) → turned.planes ≡ strip.planes → HoldsTo inputs bare begun (even_wide plan.down) p start now strip → HoldsTo inputs bare begun (even_wide plan.down) p start now turned
+  turned_holds turned inputs start now same holds = record {
+    samples = holds.samples;
+    read = holds.read;
+    count = holds.count;
+    held = subst (λ (planes : List Plane). (p.read ≡ 0) ⊎ ((p.read ≡ p.from + even_wide plan.down) × HoldRowsFrom bare p.from (even_wide plan.down) (tints_for bare holds.samples) planes)) (sym same) holds.held;
   }
 
-  read_on : HaveRead inputs begun (length begun) (λ k. holds.samples k ++ new_rows begun kept new.planes k) start after
-  read_on = reading_grows inputs begun holds.samples (rows_after bare from rows next) reads.copied new.planes start before after holds.read are_read reads.read
+  turned_room : (turned : PageParts) → turned.planes ≡ strip.planes → HaveRoomFor bare (even_wide plan.down) turned.planes
+  turned_room turned same = subst (HaveRoomFor bare (even_wide plan.down)) (sym same) strip_room_is
 
-  in_copied : (c : ℕ) → c < length reads.copied → c < length begun
-  in_copied c l = (let e = reads.common.count in let f = holds.held.count in let g = header.count in omega (arith, l, e, f, g))
+  -- what the next rows are read by
+  module _ (trays : List TrayState) (inputs : List (List ℕ)) (start : List TrayState) (holds : HoldsTo inputs bare begun (even_wide plan.down) p start trays strip) (wide : ℕ) (wide_is : wide ≡ width bare) where
+    long : (k : ℕ) → k < length begun → length (tints_of strip.planes k) ≡ even_wide plan.down * width bare
+    long k l = strip_room_is.room k (let e = headers.count in omega (arith, e, l))
 
-  are_kept : AreKept kept reads.copied new.planes
-  are_kept = record {
-    count = reads.count ∙ sym reads.common.count;
-    form = λ c l. (let filled = reads.read.0 c (in_copied c l) in record {
-      width = filled.width;
-      height = filled.height;
-      maxval = filled.maxval;
-      full = filled.tints.full;
-    });
-    first = λ c l. (reads.read.0 c (in_copied c l)).tints.first;
-  }
+    pub common_within : (k : ℕ) → k < length begun → (row.from - p.from) * wide + (p.read - row.from) * wide ≤ length (tints_of strip.planes k)
+    common_within k l = subst (λ (n : ℕ). (row.from - p.from) * wide + (p.read - row.from) * wide ≤ n) (sym (long k l)) (subst (λ (n : ℕ). (row.from - p.from) * n + (p.read - row.from) * n ≤ even_wide plan.down * width bare) (sym wide_is)
+        (both_fit bare begun (even_wide plan.down) p row inputs start trays strip headers holds next.wide next.below next.above next_inside strip_room_is))
 
-  deep : (k : ℕ) → k < length begun → (open_at begun k).header.maxval ≡ maxval bare
-  deep k l = ap (λ (h : Header). h.maxval) (header.each k l)
+    pub read_there : (done : ℕ) → done ≡ p.read * wide → (k : ℕ) → k < length begun → IsReadTo (open_at begun k) done (length (tints_of strip.planes k) - (p.read - row.from) * wide) (tray_at trays k)
+    read_there done done_is k l = subst (λ (n : ℕ). IsReadTo (open_at begun k) n (length (tints_of strip.planes k) - (p.read - row.from) * wide) (tray_at trays k)) (sym done_is)
+        (subst (λ (n : ℕ). IsReadTo (open_at begun k) (p.read * n) (length (tints_of strip.planes k) - (p.read - row.from) * n) (tray_at trays k)) (sym wide_is)
+        (read_to bare begun (even_wide plan.down) p row inputs start trays strip headers holds next.wide next.below next.above next_inside strip_room_is k l))
 
-  -- the tints of the samples that were read are those that stand behind
-  tints_on : (k : ℕ) → k < plates bare → tints_for bare (λ j. holds.samples j ++ new_rows begun kept new.planes j) k ≡ tints_for bare holds.samples k ++ behind kept new.planes k
-  tints_on k l =
-      let here = in_begun k l in
-      let m = maxval bare in
-      let below : All (λ (v : ℕ). v ≤ m) (drop kept (tints_of new.planes k)) = subst (λ (n : ℕ). All (λ (v : ℕ). v ≤ n) (drop kept (tints_of new.planes k))) (deep k here) (reads.read.0 k here).tints.below in
-      map-append (λ (v : ℕ). m - v) (holds.samples k) (new_rows begun kept new.planes k)
-      ∙ ap (λ (t : List ℕ). turned m (holds.samples k) ++ t) (ap (λ (n : ℕ). turned m (turned n (drop kept (tints_of new.planes k)))) (deep k here) ∙ turned_back m (drop kept (tints_of new.planes k)) below)
+  -- two strips have planes of the same forms
+  pub alike : (ahead : PageParts) → IsSomeStrip bare plan ahead → AreAlike strip.planes ahead.planes
+  alike ahead is =
+      let one = strip_room_is in
+      let two = room_of_strip bare plan ahead is in
+      record {
+        count = two.count ∙ sym one.count;
+        each = λ c l. (let here : c < plates bare = (let e = one.count in omega (arith, e, l)) in record {
+          width = two.wide c here ∙ sym (one.wide c here);
+          height = two.tall c here ∙ sym (one.tall c here);
+          maxval = two.deep c here ∙ sym (one.deep c here);
+          full = two.room c here ∙ sym (one.room c here);
+        });
+      }
 
-  held_next : HoldRowsFrom bare next rows (λ c. tints_for bare holds.samples c ++ behind kept new.planes c) new.planes
-  held_next = next_held bare from next rows (tints_for bare holds.samples) old.planes reads.copied new.planes holds.held low high reads.common are_kept
+  module _ (trays trays' : List TrayState) (new : PageParts) (inputs : List (List ℕ)) (start : List TrayState) (holds : HoldsTo inputs bare begun (even_wide plan.down) p start trays strip) where
+    -- the reading stops
+    pub reading_stops : (stop : RereadError) → ReadsRow bare begun p row strip new trays trays' (Err stop) → StopsBegun inputs (header_of begun) (length begun) start trays' stop
+    reading_stops stop reads =
+        stopped bare begun (even_wide plan.down) p row inputs start trays reads.turned headers (turned_holds reads.turned inputs start trays reads.turns.planes holds) next.wide next.below next.above next_inside (turned_room reads.turned reads.turns.planes) new trays' stop reads.reads
 
-  pub next_read : (now : HoldsRead inputs bare begun next rows start after new.planes) × GoOn holds.samples now.samples
-  next_read = (
-    record {
-      samples = λ k. holds.samples k ++ new_rows begun kept new.planes k;
-      read = read_on;
-      held = record {
-        count = held_next.count;
-        read = λ c l. ap length (tints_on c l) ∙ held_next.read c l;
-        wide = held_next.wide;
-        tall = held_next.tall;
-        deep = held_next.deep;
-        held = λ c l. held_next.held c l ∙ ap (drop (next * width bare)) (sym (tints_on c l));
-      };
-    },
-    λ k. (new_rows begun kept new.planes k, refl),
-  )
+    module _ (reads : ReadsRow bare begun p row strip new trays trays' (Ok tt)) where
+      pub went : (now : HoldsRead inputs bare begun row.from (even_wide plan.down) start trays' new.planes) × GoOnTo (plates bare) holds.samples now.samples
+      went = read_on bare begun (even_wide plan.down) p row inputs start trays reads.turned headers (turned_holds reads.turned inputs start trays reads.turns.planes holds) next.wide next.below next.above next_inside (turned_room reads.turned reads.turns.planes) new trays' reads.reads
 
-module _ (inputs : List (List ℕ)) (bare : PageParts) (begun : List OpenPlate) (rows : ℕ) (start before after : List TrayState) (old new : PageParts) (header : HaveHeader bare begun) (none : HaveRead inputs begun (length begun) (λ k. []) start before) (room : HaveRoomFor bare rows old.planes) (inside : rows ≤ height bare) (reads : ReadsStrip begun (record { done = 0; kept = 0 }) 0 old new before after (Ok tt)) where
-  first_old : (k : ℕ) → k < plates bare → k < length old.planes
-  first_old k l = (let e = room.count in omega (arith, l, e))
+      abbrev pub now : HoldsRead inputs bare begun row.from (even_wide plan.down) start trays' new.planes
+      now = went.0
 
-  first_begun : (k : ℕ) → k < plates bare → k < length begun
-  first_begun k l = (let e = header.count in omega (arith, l, e))
+      now_held : HoldRowsFrom bare row.from row.wide (tints_for bare now.samples) new.planes
+      now_held = subst (λ (n : ℕ). HoldRowsFrom bare row.from n (tints_for bare now.samples) new.planes) (sym next.wide) now.held
 
-  first_bare : (k : ℕ) → k < length begun → k < plates bare
-  first_bare k l = (let e = header.count in omega (arith, l, e))
+      now_room : HaveRoomFor bare row.wide new.planes
+      now_room = record {
+        count = now_held.count;
+        wide = now_held.wide;
+        tall = now_held.tall;
+        deep = now_held.deep;
+        room = λ c l. (let e = ap length (now_held.held c l) in let d = length-drop (row.from * width bare) (tints_for bare now.samples c) in let r = now_held.read c l in omega (arith, e, d, r));
+      }
 
-  first_room : HaveRoomFor bare rows reads.copied
-  first_room = record {
-    count = reads.common.count ∙ room.count;
-    wide = λ c l. (reads.common.each c (first_old c l)).form.width ∙ room.wide c l;
-    tall = λ c l. (reads.common.each c (first_old c l)).form.height ∙ room.tall c l;
-    deep = λ c l. (reads.common.each c (first_old c l)).form.maxval ∙ room.deep c l;
-    room = λ c l. (reads.common.each c (first_old c l)).form.full ∙ room.room c l;
-  }
+      pub new_is : IsStripOf bare row new
+      new_is =
+          let turned_strip = turned_is bare at_hand.last row strip reads.turned at_hand.is_strip (at_hand.tall ∙ sym next.wide) reads.turns in
+          record {
+            resolution = reads.reads.resolution ∙ turned_strip.resolution;
+            inks = reads.reads.inks ∙ turned_strip.inks;
+            zones = reads.reads.zones ∙ turned_strip.zones;
+            planes = now_room;
+          }
 
-  first_are_read : AreReadTo begun (λ k. []) 0 (wanted 0 reads.copied)
-  first_are_read = record {
-    count = λ k l. refl;
-    room = λ k l. (let long = first_room.room k (first_bare k l) in
-        let h = ap (λ (h : Header). h.width * h.height) (header.each k l) in
-        let m : rows * width bare ≤ height bare * width bare = mul-le-mul inside (omega arith) in
-        omega (arith, long, h, m));
-  }
+      few : (c : ℕ) → c < plates bare → length (now.samples c) ≤ width bare * height bare
+      few c l =
+          let e = length-map (now.samples c) (λ (v : ℕ). maxval bare - v) in
+          let r = now_held.read c l in
+          let i = next_inside in
+          let m : (row.from + row.wide) * width bare ≤ height bare * width bare = mul-le-mul i (omega arith) in
+          omega (arith, e, r, m)
 
-  first_read_on : HaveRead inputs begun (length begun) (λ k. [] ++ new_rows begun 0 new.planes k) start after
-  first_read_on = reading_grows inputs begun (λ k. []) (record { done = 0; kept = 0 }) reads.copied new.planes start before after none first_are_read reads.read
+      pub new_cuttable : IsCuttable new
+      new_cuttable = strip_cuttable bare plan row new can hand new_is (tints_for bare now.samples) now_held (may_begin bare now.samples few)
 
-  first_copied : (c : ℕ) → c < length reads.copied → c < length begun
-  first_copied c l = (let e = reads.common.count in let f = room.count in let g = header.count in omega (arith, l, e, f, g))
+      pub new_some : IsSomeStrip bare plan new
+      new_some = record { last = row; tall = next.wide; is_strip = new_is }
 
-  first_kept : AreKept 0 reads.copied new.planes
-  first_kept = record {
-    count = reads.count ∙ sym reads.common.count;
-    form = λ c l. (let filled = reads.read.0 c (first_copied c l) in record {
-      width = filled.width;
-      height = filled.height;
-      maxval = filled.maxval;
-      full = filled.tints.full;
-    });
-    first = λ c l. (reads.read.0 c (first_copied c l)).tints.first;
-  }
-
-  first_tints : (k : ℕ) → k < plates bare → tints_for bare (λ j. [] ++ new_rows begun 0 new.planes j) k ≡ behind 0 new.planes k
-  first_tints k l =
-      let here = first_begun k l in
-      let deep = ap (λ (h : Header). h.maxval) (header.each k here) in
-      let below : All (λ (v : ℕ). v ≤ maxval bare) (drop 0 (tints_of new.planes k)) = subst (λ (n : ℕ). All (λ (v : ℕ). v ≤ n) (drop 0 (tints_of new.planes k))) deep (reads.read.0 k here).tints.below in
-      ap (λ (n : ℕ). turned (maxval bare) (turned n (drop 0 (tints_of new.planes k)))) deep ∙ turned_back (maxval bare) (drop 0 (tints_of new.planes k)) below
-
-  first_held : HoldRowsFrom bare 0 rows (behind 0 new.planes) new.planes
-  first_held = none_held bare rows reads.copied new.planes first_room first_kept
-
-  pub first_read : HoldsRead inputs bare begun 0 rows start after new.planes
-  first_read = record {
-    samples = λ k. [] ++ new_rows begun 0 new.planes k;
-    read = first_read_on;
-    held = record {
-      count = first_held.count;
-      read = λ c l. ap length (first_tints c l) ∙ first_held.read c l;
-      wide = first_held.wide;
-      tall = first_held.tall;
-      deep = first_held.deep;
-      held = λ c l. first_held.held c l ∙ ap (drop (0 * width bare)) (sym (first_tints c l));
-    };
-  }
+      -- a sheet that begins with all that was read begins with what was read before
+      pub before : (sheet : PageParts) → BeginsWith bare (tints_for bare now.samples) sheet → BeginsWith bare (tints_for bare holds.samples) sheet
+      before sheet begins = earlier bare sheet holds.samples now.samples went.1 begins

@@ -1,7 +1,7 @@
 -- The report of a bare sheet, line by line.
 use Rattle.std.proofs.Common.{◌≡◌, ℕ, zero, suc, List, ◌++◌, length, codes, slice_index, refl, ap, ◌∙◌}
-use Rattle.bare_sheets.specs.Bare.{bare_sheet}
-use Rattle.bare_sheets.proofs.BareLemmas.{height_is, maxval_is, plates_is, width_is}
+use Rattle.sheet_geometry.specs.Bare.{bare_sheet}
+use Rattle.sheet_geometry.proofs.BareLemmas.{height_is, maxval_is, plates_is, width_is}
 use Rattle.page_model.specs.declared.parts.Counts.{Counts}
 use Rattle.page_model.specs.declared.parts.PageParts.{PageParts}
 use Rattle.page_model.specs.Page.{ink_at, plates}

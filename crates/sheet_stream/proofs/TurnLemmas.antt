@@ -4,9 +4,9 @@ use Rattle.std.proofs.lemmas.List.{length-map}
 use Rattle.page_model.specs.declared.parts.Zone.{Zone}
 use Rattle.page_model.specs.Page.{height}
 use Rattle.sheet_stream.specs.Holding.{HaveRoomFor}
-use Rattle.sheet_stream.specs.Strips.{StripsHaveForm, TurnedIsStrip}
-use Rattle.sheet_windows.specs.Windows.{moved_vertex, moved_zone, points_of}
-use Rattle.window_pages.specs.Forms.{zone_form}
+use Rattle.sheet_stream.specs.HeldStrips.{StripsHaveForm, TurnedIsStrip}
+use Rattle.sheet_geometry.specs.Windows.{moved_vertex, moved_zone, points_of}
+use Rattle.sheet_geometry.specs.Forms.{zone_form}
 
 zone_kept : (right up : ℕ) (zone : Zone) → zone_form (moved_zone right up zone) ≡ zone_form zone
 zone_kept right up zone = λ i. record { vertices = length-map zone.path (moved_vertex right up) i; limits = zone.limits }

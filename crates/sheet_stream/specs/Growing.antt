@@ -1,6 +1,6 @@
 -- The new tints of a sheet, as far as they are written.
 use Rattle.std.specs.Prelude.{◌≡◌, ℕ, ◌+◌, ◌*◌, List, ◌++◌}
-use Rattle.bare_sheets.specs.StripCores.{new_from}
+use Rattle.sheet_geometry.specs.StripCores.{new_from}
 use Rattle.page_model.specs.declared.parts.PageParts.{PageParts}
 use Rattle.page_model.specs.Page.{height, width}
 use Rattle.page_model.specs.Tints.{new_tints}

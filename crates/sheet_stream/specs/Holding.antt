@@ -1,12 +1,12 @@
 -- The rows of each plate that are held while a sheet is read strip by strip.
 use Rattle.std.specs.Prelude.{◌≡◌, ℕ, ◌+◌, ◌-◌, ◌*◌, ◌<◌, ◌≤◌, List, ◌++◌, drop, length, take}
-use Rattle.bare_sheets.specs.Begun.{BeginsWith}
+use Rattle.sheet_geometry.specs.Begun.{BeginsWith}
 use Rattle.page_model.specs.declared.parts.PageParts.{PageParts}
 use Rattle.page_model.specs.declared.parts.Plane.{Plane}
 use Rattle.page_model.specs.Page.{height, maxval, plates, width}
 use Rattle.page_model.specs.Planes.{plane_at, tints_of}
-use Rattle.sheet_windows.specs.declared.spans.Span.{Span}
-use Rattle.sheet_windows.specs.Strips.{strip_parts}
+use Rattle.sheet_geometry.specs.declared.spans.Span.{Span}
+use Rattle.sheet_geometry.specs.Strips.{strip_parts}
 
 -- the sides and the maxval of a plane, and how many tints it has, are as they were
 pub record HasForm (old new : Plane) : Type 0 where

@@ -1,6 +1,6 @@
 -- The report of a sheet looks at no tint.
 use Rattle.std.specs.Prelude.{◌≡◌}
-use Rattle.bare_sheets.specs.Bare.{bare_sheet}
+use Rattle.sheet_geometry.specs.Bare.{bare_sheet}
 use Rattle.page_model.specs.declared.parts.Counts.{Counts}
 use Rattle.page_model.specs.declared.parts.PageParts.{PageParts}
 use Rattle.trap_report.specs.Report.{report_of}

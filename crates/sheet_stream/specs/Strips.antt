@@ -1,55 +1,38 @@
--- A strip while its rows are read: a sheet of its own but for its tints.
-use Rattle.std.specs.Prelude.{◌≡◌, ℕ, ◌+◌, ◌-◌, ◌≤◌, List, map, replicate, ◌*◌}
-use Rattle.bare_sheets.specs.Begun.{BeginsWith}
+-- A sheet that can be streamed, and its strips.
+use Rattle.std.specs.Prelude.{◌≡◌, ◌<◌, ◌≤◌, ◌^◌, None}
+use Rattle.sheet_geometry.specs.Bare.{IsBareSheet, bare_sheet}
 use Rattle.page_model.specs.declared.parts.PageParts.{PageParts}
-use Rattle.page_model.specs.declared.parts.Plane.{Plane}
-use Rattle.page_model.specs.Page.{height}
-use Rattle.sheet_stream.specs.Holding.{HaveRoomFor, HoldRowsFrom}
-use Rattle.sheet_windows.specs.declared.spans.Span.{Span}
-use Rattle.sheet_windows.specs.Strips.{strip_parts}
-use Rattle.sheet_windows.specs.Windows.{moved_zone, points_of}
-use Rattle.window_pages.specs.Forms.{zone_form}
+use Rattle.page_model.specs.Page.{height, maxval, width}
+use Rattle.sheet_geometry.specs.Refusals.{cut_fault}
+use Rattle.sheet_stream.specs.HeldStrips.{IsStripOf}
+use Rattle.sheet_geometry.specs.declared.spans.Span.{Span}
+use Rattle.sheet_geometry.specs.Plans.{AreRulers, AreSmall}
+use Rattle.sheet_geometry.specs.Spans.{IsEvenRuler, even_wide}
+use Rattle.sheet_stream.specs.declared.core_rows.StripCut.{StripCut}
+use Rattle.sheet_stream.specs.declared.parts.StripPlan.{StripPlan}
+use Rattle.sheet_engine.specs.Strips.{IsSomeSpan}
 
--- a plane of `rows` rows, of no ink
-abbrev pub blank_plane : ℕ → Plane → Plane
-blank_plane rows plane = record {
-  width = plane.width;
-  height = rows;
-  maxval = plane.maxval;
-  tints = replicate (plane.width * rows) 0;
-}
+-- A sheet that can be cut, and rulers for it that give strips of one height.
+pub record CanStream (bare : PageParts) (plan : StripPlan) : Type 0 where
+  pub valid : IsBareSheet bare
+  pub blank : bare_sheet bare ≡ bare
+  pub cut : cut_fault bare ≡ None
+  pub narrow : width bare < 2 ^ 30
+  pub low : height bare < 2 ^ 30
+  pub rulers : AreRulers bare plan.across plan.down
+  pub small : AreSmall bare plan.across plan.down
+  pub even : IsEvenRuler plan.down
+  pub some_workers : 1 ≤ plan.workers
+  pub deep : plan.header.maxval ≡ maxval bare
 
--- Of a strip of these rows all but the tints: its inks, and its zones from its own lower left
--- corner. Its planes have room for its rows.
-pub record IsStripOf (bare : PageParts) (row : Span) (parts : PageParts) : Type 0 where
-  pub resolution : parts.resolution ≡ bare.resolution
-  pub inks : parts.inks ≡ bare.inks
-  pub zones : parts.zones ≡ map (moved_zone (points_of bare.resolution 0)
-      (points_of bare.resolution (height bare - (row.from + row.wide)))) bare.zones
-  pub planes : HaveRoomFor bare row.wide parts.planes
+-- A strip of the sheet, or room for one, whatever rows it shows.
+pub record IsSomeStrip (bare : PageParts) (plan : StripPlan) (strip : PageParts) : Type 0 where
+  pub last : Span
+  pub tall : last.wide ≡ even_wide plan.down
+  pub is_strip : IsStripOf bare last strip
 
--- A strip is turned to these rows: its zones stand from their corner, and all else is as it was.
-pub record TurnsTo (bare : PageParts) (row : Span) (old new : PageParts) : Type 0 where
-  pub resolution : new.resolution ≡ old.resolution
-  pub planes : new.planes ≡ old.planes
-  pub inks : new.inks ≡ old.inks
-  pub zones : new.zones ≡ map (moved_zone (points_of bare.resolution 0)
-      (points_of bare.resolution (height bare - (row.from + row.wide)))) bare.zones
-
--- Where a strip is turned to as many rows, it is a strip of them.
-abbrev pub TurnedIsStrip : Type 0
-TurnedIsStrip = (bare : PageParts) (last row : Span) (old new : PageParts)
-    → IsStripOf bare last old → last.wide ≡ row.wide → TurnsTo bare row old new
-    → IsStripOf bare row new
-
--- All strips of a sheet have zones of one form.
-abbrev pub StripsHaveForm : Type 0
-StripsHaveForm = (bare : PageParts) (row : Span) (parts : PageParts) → IsStripOf bare row parts
-    → map zone_form parts.zones ≡ map zone_form bare.zones
-
--- Once its planes hold its rows, it is the strip, of each sheet that begins with what was read.
-abbrev pub StripIsMade : Type 0
-StripIsMade = (bare sheet : PageParts) (row : Span) (tints : ℕ → List ℕ) (parts : PageParts)
-    → IsStripOf bare row parts → HoldRowsFrom bare row.from row.wide tints parts.planes
-    → BeginsWith bare tints sheet → row.from + row.wide ≤ height sheet
-    → parts ≡ strip_parts sheet row
+-- a strip that can be cut so, as a sheet of its own
+pub record CanBeCut (strip : PageParts) (cut : StripCut) : Type 0 where
+  pub rulers : AreRulers strip cut.across cut.down
+  pub small : AreSmall strip cut.across cut.down
+  pub row : IsSomeSpan cut.down cut.row

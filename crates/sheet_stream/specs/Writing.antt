@@ -6,7 +6,7 @@ use Rattle.page_model.specs.declared.parts.PageParts.{PageParts}
 use Rattle.page_model.specs.Page.{width}
 use Rattle.pgm_plates.specs.declared.header.Header.{Header}
 use Rattle.pgm_plates.specs.Rows.{HasWritten, spelled_so_far}
-use Rattle.bare_sheets.specs.StripCores.{new_from}
+use Rattle.sheet_geometry.specs.StripCores.{new_from}
 use Rattle.plate_rows.specs.Images.{HaveWritten, WritesNext, part_at}
 use Rattle.sheet_stream.specs.Growing.{new_rows}
 

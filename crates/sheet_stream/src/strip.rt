@@ -1,73 +1,91 @@
-// A strip before its rows are read.
+// A strip trapped, and its core written.
 
-ghost use Rattle.std.specs.Prelude.{◌≡◌, ◌+◌, ◌*◌, ◌<◌, ◌≤◌, ◌^◌, All, IfOk, map, replicate};
-ghost use Rattle.bare_sheets.specs.Bare.{IsBareSheet};
-ghost use Rattle.page_model.specs.declared.parts.Plane.{Plane};
-ghost use Rattle.page_model.specs.Page.{height, width};
-ghost use Rattle.sheet_stream.specs.Strips.{IsStripOf, blank_plane};
+ghost use Rattle.std.specs.Prelude.{◌≡◌, ◌*◌, ◌≤◌, length, map};
+ghost use Rattle.page_model.specs.Page.{maxval, plates, width};
+ghost use Rattle.sheet_stream.specs.Cores.{AreOpen, IsCutStrip, WritesCore};
+ghost use Rattle.sheet_stream.specs.OnSheet.{strip_cut};
+ghost use Rattle.sheet_stream.specs.Ready.{IsTrappable, TrapsRow};
 
-use lists::list::List;
-use lists::memory::push;
-use page_model::parts::{OutOfMemory, PageParts, Plane, PlaneList, Tints};
-use sheet_windows::corners::points;
-use sheet_windows::spans::Span;
-use std::alloc::Global;
-use window_pages::copies::{inks_of, zones_of};
+use crate::core_rows::write_core;
+use crate::parts::{StripPlan, cut_of};
+use outside::rack::Rack;
+use refusals::refusal::Refusal;
+use sheet_geometry::spans::Span;
+use std::thread::Threads;
+use sheet_engine::room::{StripRoom, trap_strip_in};
+use sheet_engine::counts::SheetCounts;
+use sheet_geometry::window_sheet::Sheet;
 
-/// Allocates a strip of these rows of a sheet, given without its tints. The memory does for all strips of the sheet
-/// with as many rows. Until rows are read all tints are 0. It fails only where memory runs out.
-pub fn first_strip(alloc: Global, bare: &PageParts, row: &Span) -> Result<PageParts, OutOfMemory>
-    requires bare { IsBareSheet bare.now }
-    requires narrow { width bare.now < 2 ^ 30 }
-    requires low { height bare.now < 2 ^ 30 }
-    requires inside { row.now.from + row.now.wide ≤ height bare.now }
-    ensures strip { IfOk result (IsStripOf bare.now row.now) }
-    ensures blank { IfOk result (λ strip. strip.planes
-        ≡ map (blank_plane row.now.wide) bare.now.planes) }
-{
-    let planes = bare.planes.as_slice();
-    let below = planes[0].height - (row.from + row.wide);
-    let up = points(bare.resolution, below);
-    let zones = zones_of(alloc, bare.zones.as_slice(), points(bare.resolution, 0), up)?;
-    Ok(PageParts {
-        resolution: bare.resolution,
-        planes: blank_planes(alloc, planes, row.wide)?,
-        inks: inks_of(alloc, bare.inks.as_slice())?,
-        zones,
-    })
+/// What a strip is trapped and written with: the buffers of its windows, a buffer `line` for some rows of all plates,
+/// at least one, and a buffer for some bytes.
+#[derive(Drop)]
+pub struct CoreRoom {
+    pub windows: StripRoom,
+    pub line: Vec<u16>,
+    pub bytes: Vec<u8>,
 }
 
-fn blank_planes(alloc: Global, planes: &[Plane], rows: u32) -> Result<PlaneList, OutOfMemory>
-    requires narrow { All (λ (plane : Plane). plane.width < 2 ^ 30) planes.now }
-    requires low { rows < 2 ^ 30 }
-    ensures { IfOk result (λ blank. blank ≡ map (blank_plane rows) planes.now) }
+/// Traps the strip of these rows by as many workers as the plan has, with the buffers of its windows, and adds the
+/// counts of its core. It allocates nothing.
+pub fn trap_row<H: Threads + Sync>(
+    rt: &H,
+    plan: &StripPlan,
+    row: &Span,
+    strip: &Sheet,
+    windows: &mut StripRoom,
+    counts: &mut SheetCounts,
+)
+    requires { IsTrappable plan.now row.now strip.now windows.old counts.old }
+    ensures { TrapsRow plan.now row.now strip.now windows.old windows.new counts.old counts.new }
 {
-    let mut blank = List::new(alloc);
-    for plane in planes {
-        push(&mut blank, plane_of(alloc, plane, rows)?)?;
-    }
-    Ok(blank)
+    let _valid = strip.width();
+    let cut = cut_of(plan, row);
+    trap_strip_in(
+        rt,
+        strip,
+        &cut.across,
+        &cut.down,
+        &cut.row,
+        cut.row.skip,
+        plan.workers,
+        windows,
+        counts,
+    );
 }
 
-fn plane_of(alloc: Global, plane: &Plane, rows: u32) -> Result<Plane, OutOfMemory>
-    requires narrow { plane.now.width < 2 ^ 30 }
-    requires low { rows < 2 ^ 30 }
-    ensures { IfOk result (λ blank. blank ≡ blank_plane rows plane.now) }
+/// Writes the rows of the core of the strip of these rows, which was trapped last, some rows of all plates at once,
+/// plate k by rack k. It allocates nothing.
+///
+/// Where a call of a rack fails, it stops with `Write` and the plate's number.
+pub fn write_row<R: Rack>(
+    racks: &mut [R],
+    plan: &StripPlan,
+    row: &Span,
+    strip: &Sheet,
+    room: &mut CoreRoom,
+) -> Result<(), Refusal>
+    requires racks { plates strip.now ≤ length racks.old }
+    requires open { AreOpen plan.now.header (plates strip.now) (map R.state racks.old) }
+    requires cut { IsCutStrip strip.now (strip_cut plan.now.across plan.now.down row.now)
+        room.old.windows }
+    requires line { plates strip.now * width strip.now ≤ length room.old.line.items }
+    requires bytes { 2 ≤ length room.old.bytes.items }
+    requires maxval { plan.now.header.maxval ≡ maxval strip.now }
+    ensures windows { room.new.windows ≡ room.old.windows }
+    ensures line { length room.new.line.items ≡ length room.old.line.items }
+    ensures bytes { length room.new.bytes.items ≡ length room.old.bytes.items }
+    ensures written { WritesCore (plates strip.now) plan.now.header strip.now
+        (strip_cut plan.now.across plan.now.down row.now) (map R.state racks.old)
+        (map R.state racks.new) result }
 {
-    Ok(Plane {
-        width: plane.width,
-        height: rows,
-        maxval: plane.maxval,
-        tints: no_tints(alloc, plane.width as usize * rows as usize)?,
-    })
-}
-
-// A list of `count` tints, all 0.
-fn no_tints(alloc: Global, count: usize) -> Result<Tints, OutOfMemory>
-    ensures { IfOk result (λ tints. tints ≡ replicate count 0) }
-{
-    match vec![in alloc; 0u16; count] {
-        Ok(tints) => Ok(List::from_vec(tints)),
-        Err(_) => Err(OutOfMemory),
-    }
+    let cut = cut_of(plan, row);
+    write_core(
+        racks,
+        plan.header,
+        strip,
+        &cut,
+        &room.windows,
+        &mut room.line,
+        &mut room.bytes,
+    )
 }

@@ -1,15 +1,15 @@
 // The zones of a sheet as seen from a strip's own corner, written over an earlier strip's.
 
 ghost use Rattle.std.specs.Prelude.{◌≡◌, ◌+◌, ◌<◌, ◌≤◌, ◌^◌, map};
-ghost use Rattle.bare_sheets.specs.Bare.{IsBareSheet};
+ghost use Rattle.sheet_geometry.specs.Bare.{IsBareSheet};
 ghost use Rattle.page_model.specs.Page.{height};
-ghost use Rattle.sheet_stream.specs.Strips.{TurnsTo};
-ghost use Rattle.window_pages.specs.Forms.{zone_form};
+ghost use Rattle.sheet_stream.specs.HeldStrips.{TurnsTo};
+ghost use Rattle.sheet_geometry.specs.Forms.{zone_form};
 
 use page_model::parts::PageParts;
-use sheet_windows::corners::points;
-use sheet_windows::spans::Span;
-use window_pages::refill::move_zones;
+use sheet_geometry::corners::points;
+use sheet_geometry::spans::Span;
+use sheet_geometry::refill::move_zones;
 
 /// Moves a strip of a sheet to other rows: its zones become those of the sheet as seen from the new corner. Nothing
 /// else of it is read or changed, and nothing is allocated.

@@ -1,7 +1,7 @@
 //! The program `trap`: passes its words, the disk and standard output to the top call.
 #![tactic(auto)]
 
-use band_workers::OpenGate;
+use band_claims::OpenGate;
 use outside::disk_rack::DiskRack;
 use outside::disk_tray::DiskTray;
 use refusals::words::words;

@@ -3,10 +3,10 @@ use Rattle.std.proofs.Common.{◌≡◌, ℕ, ◌<◌, List, length, Ok, refl, a
 use Rattle.page_model.specs.Page.{plates}
 use Rattle.page_model.specs.Planes.{plane_at}
 use Rattle.trap_c.specs.declared.work.Done.{Done}
-use Rattle.sheet_windows.specs.declared.cuts.Cut.{Cut}
-use Rattle.sheet_windows.specs.Tiles.{IsTile, Tile, TileLaw}
-use Rattle.sheet_windows.specs.WindowLaw.{WindowLaw}
-use Rattle.sheet_windows.specs.Windows.{IsCut}
+use Rattle.sheet_geometry.specs.declared.cuts.Cut.{Cut}
+use Rattle.sheet_geometry.specs.Tiles.{IsTile, Tile, TileLaw}
+use Rattle.sheet_geometry.specs.WindowLaw.{WindowLaw}
+use Rattle.sheet_geometry.specs.Windows.{IsCut}
 use Rattle.page_model.specs.declared.parts.PageParts.{PageParts}
 use Rattle.page_model.specs.declared.parts.Plane.{Plane}
 use Rattle.trap_c.specs.declared.place.Place.{Place}

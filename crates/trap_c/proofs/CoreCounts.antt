@@ -9,10 +9,10 @@ use Rattle.page_model.specs.declared.parts.PageParts.{PageParts}
 use Rattle.page_model.specs.Conditions.{IsPage, IsPlane}
 use Rattle.page_model.specs.Page.{plates}
 use Rattle.page_model.specs.Planes.{no_plane, plane_at}
-use Rattle.sheet_windows.specs.declared.cuts.Cut.{Cut}
-use Rattle.sheet_windows.specs.Areas.{changes_in, changes_plate, edges_at, lies_in}
-use Rattle.tile_counts.specs.declared.counts.SheetCounts.{SheetCounts}
-use Rattle.tile_counts.specs.Growth.{AddsArea, Grows, HasRoom, HasRooms, LiesOn}
+use Rattle.sheet_geometry.specs.declared.cuts.Cut.{Cut}
+use Rattle.sheet_geometry.specs.Areas.{changes_in, changes_plate, edges_at, lies_in}
+use Rattle.sheet_engine.specs.declared.counts.SheetCounts.{SheetCounts}
+use Rattle.sheet_engine.specs.Growth.{AddsArea, Grows, HasRoom, HasRooms, LiesOn}
 use Rattle.trap_c.specs.Cores.{AreNone, HasCounts, core_counts, sum_over}
 use Rattle.trap_report.specs.Report.{AreCounts}
 use Rattle.lists.proofs.ListBelow.{length-list_below}

@@ -13,7 +13,7 @@ use Rattle.page_model.specs.declared.parts.Zone.{Zone}
 use Rattle.page_model.specs.Conditions.{IsVertex, IsZone, begins}
 use Rattle.page_model.specs.Limits.{most_coordinate}
 use Rattle.page_model.specs.Page.{no_zone}
-use Rattle.sheet_windows.specs.Windows.{moved_vertex, moved_zone, points_of}
+use Rattle.sheet_geometry.specs.Windows.{moved_vertex, moved_zone, points_of}
 use Rattle.trap_c.specs.declared.layout.Layout.{Layout}
 use Rattle.trap_c.specs.declared.place.Place.{Place}
 use Rattle.trap_c.specs.Places.{rows_after}

@@ -8,7 +8,7 @@ use Rattle.lists.specs.Words.{first_some, or_else}
 use Rattle.lists.proofs.FirstSome.{all_none, each_none}
 use Rattle.lists.proofs.ListBelow.{length-list_below, list_below-at}
 use Rattle.job_reader.specs.declared.job.Job.{Job}
-use Rattle.page_gather.specs.Assembly.{CanAssemblePlanes, parts_of_planes, assembly_of_planes, detailed, faulted, without_details}
+use Rattle.page_files.specs.Assembly.{CanAssemblePlanes, parts_of_planes, assembly_of_planes, detailed, faulted, without_details}
 use Rattle.page_model.specs.declared.page.PageFault.{PageFault}
 use Rattle.page_model.specs.declared.parts.PageParts.{PageParts}
 use Rattle.page_model.specs.declared.parts.Plane.{Plane}

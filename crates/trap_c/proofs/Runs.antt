@@ -7,7 +7,7 @@ use Rattle.std.proofs.lemmas.Grind.{get_or_default_zero}
 use Rattle.std.proofs.lemmas.List.{get_or_append_left, get_or-append_right, get_or_default, get_or_past, length-take}
 use Rattle.page_model.specs.declared.parts.Plane.{Plane}
 use Rattle.page_model.specs.Planes.{no_plane, plane_at}
-use Rattle.sheet_windows.specs.declared.cuts.Cut.{Cut}
+use Rattle.sheet_geometry.specs.declared.cuts.Cut.{Cut}
 use Rattle.trap_c.specs.declared.layout.Layout.{Layout}
 use Rattle.trap_c.specs.Cores.{HasCoreTo, HaveCores, IsBeside, IsIn, IsRun, core_run, tint_run}
 use Rattle.trap_c.proofs.Parts.{item_kept}

@@ -10,7 +10,7 @@ use Rattle.job_reader.specs.declared.job.Job.{Job}
 use Rattle.job_reader.specs.Jobs.{job_of}
 use Rattle.lists.specs.Words.{greatest_below}
 use Rattle.lists.proofs.ListBelow.{list_below-at}
-use Rattle.page_gather.specs.Assembly.{ink_of, parts_of_planes, zone_for}
+use Rattle.page_files.specs.Assembly.{ink_of, parts_of_planes, zone_for}
 use Rattle.page_model.specs.declared.parts.Ink.{Ink}
 use Rattle.page_model.specs.declared.parts.PageParts.{PageParts}
 use Rattle.page_model.specs.declared.parts.Plane.{Plane}
@@ -23,11 +23,11 @@ use Rattle.page_model.specs.Reach.{page_reach, params_reach}
 use Rattle.page_model.specs.Tints.{new, new_tints, trapped_planes}
 use Rattle.ps_tokens.specs.declared.faults.JobFault.{JobFault}
 use Rattle.refusals.specs.declared.refusal.Refusal.{Refusal}
-use Rattle.sheet_windows.specs.declared.cuts.Cut.{Cut}
-use Rattle.sheet_windows.specs.Areas.{changes_in, changes_plate, edges_at, lies_in}
-use Rattle.sheet_windows.specs.Tiles.{IsCore, IsTile, Tile, TileLaw}
-use Rattle.sheet_windows.specs.WindowLaw.{IsInside, WindowLaw}
-use Rattle.sheet_windows.specs.Windows.{IsCut, IsExact, moved_zone, points_of, window}
+use Rattle.sheet_geometry.specs.declared.cuts.Cut.{Cut}
+use Rattle.sheet_geometry.specs.Areas.{changes_in, changes_plate, edges_at, lies_in}
+use Rattle.sheet_geometry.specs.Tiles.{IsCore, IsTile, Tile, TileLaw}
+use Rattle.sheet_geometry.specs.WindowLaw.{IsInside, WindowLaw}
+use Rattle.sheet_geometry.specs.Windows.{IsCut, IsExact, moved_zone, points_of, window}
 use Rattle.trap_c.specs.declared.layout.Layout.{Layout}
 use Rattle.trap_c.specs.declared.place.Along.{Along}
 use Rattle.trap_c.specs.declared.place.Place.{Place}
@@ -42,7 +42,7 @@ use Rattle.trap_c.specs.Planes.{planes_in}
 use Rattle.trap_c.specs.Requests.{Asked}
 use Rattle.trap_c.specs.WindowCalls.{IsOnSheet, IsSheetOf}
 use Rattle.trap_c.specs.Windows.{call_window, first_far, made_unless, moved_job, placed, unless_far, window_by, window_with}
-use Rattle.sheet_windows.proofs.Parts.{plates-same}
+use Rattle.sheet_geometry.proofs.Parts.{plates-same}
 use Rattle.trap_c.proofs.PageLemmas.{parts_made}
 use Rattle.trap_c.proofs.WorkLemmas.{as_many_planes, one_plane}
 

@@ -6,8 +6,8 @@ use Rattle.page_model.specs.declared.parts.PageParts.{PageParts}
 use Rattle.page_model.specs.Columns.{halo}
 use Rattle.page_model.specs.Limits.{most_sheet_side, scale}
 use Rattle.page_model.specs.Reach.{page_reach}
-use Rattle.sheet_windows.specs.declared.cuts.Cut.{Cut}
-use Rattle.sheet_windows.specs.Tiles.{Tile}
+use Rattle.sheet_geometry.specs.declared.cuts.Cut.{Cut}
+use Rattle.sheet_geometry.specs.Tiles.{Tile}
 use Rattle.trap_c.specs.declared.layout.Layout.{Layout}
 use Rattle.trap_c.specs.declared.place.Along.{Along}
 use Rattle.trap_c.specs.declared.place.Place.{Place}

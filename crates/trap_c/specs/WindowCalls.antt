@@ -3,7 +3,7 @@ use Rattle.std.specs.Prelude.{◌≡◌, ◌≢◌, ◌⊎◌, ℕ, ◌+◌, ◌
 use Rattle.std.specs.Prelude.{slice_index}
 use Rattle.job_reader.specs.declared.job.Job.{Job}
 use Rattle.job_reader.specs.Jobs.{job_of}
-use Rattle.page_gather.specs.Assembly.{parts_of_planes}
+use Rattle.page_files.specs.Assembly.{parts_of_planes}
 use Rattle.page_model.specs.declared.parts.PageParts.{PageParts}
 use Rattle.page_model.specs.Page.{height, plates, width}
 use Rattle.page_model.specs.Tints.{new}
@@ -12,11 +12,11 @@ use Rattle.ps_tokens.specs.declared.faults.JobRefusal.{JobRefusal}
 use Rattle.ps_tokens.specs.declared.faults.JobRefusal.TheVariants.{Fault, OutOfMemory}
 use Rattle.refusals.specs.declared.refusal.Refusal.TheVariants.{Job as JobFaulty, Memory}
 use Rattle.refusals.specs.Statuses.{done}
-use Rattle.sheet_windows.specs.Areas.{area_sum, changes_in, changes_plate, edges_at, lies_in}
-use Rattle.sheet_windows.specs.Sheets.{IsSheet}
-use Rattle.sheet_windows.specs.Tiles.{IsTile}
-use Rattle.sheet_windows.specs.Windows.{shown_plane, window}
-use Rattle.tile_counts.specs.Growth.{LiesOn}
+use Rattle.sheet_geometry.specs.Areas.{area_sum, changes_in, changes_plate, edges_at, lies_in}
+use Rattle.sheet_geometry.specs.Sheets.{IsSheet}
+use Rattle.sheet_geometry.specs.Tiles.{IsTile}
+use Rattle.sheet_geometry.specs.Windows.{shown_plane, window}
+use Rattle.sheet_engine.specs.Growth.{LiesOn}
 use Rattle.trap_c.specs.declared.layout.Layout.{Layout}
 use Rattle.trap_c.specs.declared.place.Place.{Place}
 use Rattle.trap_c.specs.declared.stop.CallError.{CallError}

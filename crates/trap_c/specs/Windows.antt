@@ -12,7 +12,7 @@ use Rattle.page_model.specs.declared.parts.Zone.{Zone}
 use Rattle.page_model.specs.Limits.{most_coordinate}
 use Rattle.ps_tokens.specs.declared.faults.JobFault.{JobFault}
 use Rattle.refusals.specs.declared.refusal.Refusal.TheVariants.{Job as JobRefusal, Memory}
-use Rattle.sheet_windows.specs.Windows.{moved_zone, points_of}
+use Rattle.sheet_geometry.specs.Windows.{moved_zone, points_of}
 use Rattle.trap_c.specs.declared.layout.Layout.{Layout}
 use Rattle.trap_c.specs.declared.place.Place.{Place}
 use Rattle.trap_c.specs.declared.stop.CallFault.{CallFault}

@@ -19,7 +19,7 @@ use page_model::bounds::MOST_MAXVAL;
 use ps_tokens::faults::JobRefusal;
 use refusals::refusal::Refusal;
 use refusals::statuses::DONE;
-use sheet_windows::laws::{tile_law, window_law};
+use sheet_geometry::laws::{tile_law, window_law};
 use std::alloc::Global;
 
 /// Carries out a call over samples of two bytes, writes the report or the line of the refusal to the text, and returns

@@ -7,7 +7,7 @@ ghost use Rattle.page_model.specs.Limits.{most_plates};
 use crate::layout::Layout;
 use crate::planes::{put_bytes_row, put_words_row};
 use page_model::parts::PlaneList;
-use sheet_windows::cuts::Cut;
+use sheet_geometry::cuts::Cut;
 
 /// Writes the core of each plane to samples of two bytes.
 pub fn put_word_cores(planes: &PlaneList, layout: Layout, core: &Cut, samples: &mut [u16])

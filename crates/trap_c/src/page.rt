@@ -14,7 +14,7 @@ use crate::source::Source;
 use job_reader::job::Job;
 use job_reader::reader::read_job;
 use lists::names::{NameList, OutOfMemory};
-use page_gather::assemble::assemble_planes;
+use page_files::assemble::assemble_planes;
 use page_model::page::Page;
 use ps_tokens::faults::JobRefusal;
 use refusals::refusal::Refusal;

@@ -3,7 +3,7 @@ ghost use Rattle.trap_c.specs.Places.{IsPlaced, across_of, core_of as core_spec,
 
 use crate::layout::Layout;
 use page_model::bounds::MOST_SHEET_SIDE;
-use sheet_windows::cuts::Cut;
+use sheet_geometry::cuts::Cut;
 
 /// Where a window stands on its sheet, and which of its samples are its core, all in samples, columns from the left and
 /// rows from the top: the sheet's sides; the window's first column and row on the sheet; the core's first column and row in

@@ -1,7 +1,7 @@
 ghost use Rattle.std.specs.Prelude.{◌≡◌, All, IfOk};
 ghost use Rattle.page_model.specs.Conditions.{IsPlane};
 ghost use Rattle.page_model.specs.Tints.{trapped_planes};
-ghost use Rattle.tile_counts.specs.Growth.{AddsArea, LiesOn};
+ghost use Rattle.sheet_engine.specs.Growth.{AddsArea, LiesOn};
 ghost use Rattle.trap_c.specs.Cores.{AreNone, HasCounts, core_counts};
 ghost use Rattle.trap_c.specs.Places.{core_of as core_spec};
 ghost use Rattle.trap_report.specs.Report.{sided_report_of};
@@ -13,10 +13,10 @@ use lists::memory::no_counts;
 use page_model::laws::trapped_planes_law;
 use page_model::page::Page;
 use page_model::parts::{Counts, OutOfMemory, PlaneList};
-use sheet_windows::cuts::Cut;
+use sheet_geometry::cuts::Cut;
 use std::alloc::Global;
-use tile_counts::counts::SheetCounts;
-use tile_counts::tile::trap_tile;
+use sheet_engine::counts::SheetCounts;
+use sheet_engine::tile::trap_tile;
 use trap_report::report::sided_report;
 
 fn none_of(alloc: Global, page: &Page) -> Result<SheetCounts, OutOfMemory>

@@ -13,26 +13,26 @@ use Rattle.page_model.specs.declared.page.PageFault.TheVariants.{TooManySamples}
 use Rattle.page_model.specs.declared.parts.PageParts.{PageParts}
 use Rattle.page_model.specs.Counts.{page_counts}
 use Rattle.page_model.specs.Tints.{trapped_planes}
-use Rattle.page_gather.specs.Inputs.{Sources, one_page, read_files}
-use Rattle.page_gather.specs.Gathering.{BreaksReading, InHand, IsMade, files_to}
-use Rattle.page_gather.specs.Steps.{PassesNoFault}
-use Rattle.page_gather.proofs.GatherLemmas.{refused_count}
-use Rattle.page_writing.specs.Files.{Written, put_all, names_of, plate_files}
-use Rattle.page_writing.specs.Writing.{Breaks, FinishesAll}
-use Rattle.page_writing.proofs.Told.{breaks_cause, file_breaks, line_after}
+use Rattle.page_files.specs.Inputs.{Sources, one_page, read_files}
+use Rattle.page_files.specs.Gathering.{BreaksReading, InHand, IsMade, files_to}
+use Rattle.page_files.specs.Steps.{PassesNoFault}
+use Rattle.page_files.proofs.GatherLemmas.{refused_count}
+use Rattle.page_files.specs.Files.{Written, put_all, names_of, plate_files}
+use Rattle.page_files.specs.Writing.{Breaks, FinishesAll}
+use Rattle.page_files.proofs.Told.{breaks_cause, file_breaks, line_after}
 use Rattle.refusals.specs.declared.refusal.Refusal.{Refusal}
 use Rattle.refusals.specs.declared.refusal.Refusal.TheVariants as refusals
 use Rattle.refusals.specs.Refusals.{status_of, line_of}
 use Rattle.trap_report.specs.Report.{report_of}
 use Rattle.refusals.specs.Telling.{TellsText, TellsAfterFault, KeepsFiles, Refuses}
-use Rattle.trap_words.specs.Words.{Command, PageWords, SampleWords, begins_with_page, command_of, page_of_words, sample_of_words}
-use Rattle.trap_words.specs.Words.Command.{Page, Sample}
+use Rattle.trap_cli.specs.Words.{Command, PageWords, SampleWords, begins_with_page, command_of, page_of_words, sample_of_words}
+use Rattle.trap_cli.specs.Words.Command.{Page, Sample}
 use Rattle.trap_cli.specs.Commands.{sample_band, sources_of, targets_of}
 use Rattle.trap_cli.specs.Endings.{CarriesOut, Closes, EndsPage, EndsSample, AnswersSample, Ends, HasReceipt, IsSmall, sample_of, sample_report}
 use Rattle.trap_cli.specs.Clauses.{MeanPage, MeanSample, Success, RefusesFiles, RefusedInput, ReadFault, WriteFault, LeavesFiles, FaultLine, SamplePage, Completeness}
-use Rattle.verdicts.specs.Verdicts.{Verdict, Targets, IsVerdict, outcome, written_names}
-use Rattle.verdicts.specs.Verdicts.Verdict.{Refused, Out}
-use Rattle.verdicts.proofs.VerdictLemmas.{PlateLaws, one_verdict}
+use Rattle.page_files.specs.Verdicts.{Verdict, Targets, IsVerdict, outcome, written_names}
+use Rattle.page_files.specs.Verdicts.Verdict.{Refused, Out}
+use Rattle.page_files.proofs.VerdictLemmas.{PlateLaws, one_verdict}
 
 -- How a page of these files ended, of what was told by its files.
 data Ending (band : ℕ) (source : Sources) (target : Targets) (t t' : TrayState) (r r' : RackState) (status : ℕ) (receipt : Option Receipt) : Type 0 where

@@ -6,16 +6,16 @@ use Rattle.outside.specs.Rack.{RackState, KeepsRack}
 use Rattle.page_model.specs.declared.parts.PageParts.{PageParts}
 use Rattle.page_model.specs.Conditions.{IsPage}
 use Rattle.outside.proofs.Names.{asks_none_of}
-use Rattle.page_gather.specs.Gathering.{Gathers, AnswersPage, IsMade, ReadsPage}
-use Rattle.page_gather.specs.Inputs.{Sources, read_files}
-use Rattle.page_gather.specs.Steps.{PassesNoFault}
-use Rattle.page_gather.proofs.GatherLemmas.{refused_count}
-use Rattle.page_writing.specs.Writing.{FailsOnce}
+use Rattle.page_files.specs.Gathering.{Gathers, AnswersPage, IsMade, ReadsPage}
+use Rattle.page_files.specs.Inputs.{Sources, read_files}
+use Rattle.page_files.specs.Steps.{PassesNoFault}
+use Rattle.page_files.proofs.GatherLemmas.{refused_count}
+use Rattle.page_files.specs.Writing.{FailsOnce}
 use Rattle.refusals.specs.declared.refusal.Refusal.{Refusal}
 use Rattle.refusals.specs.declared.refusal.Refusal.TheVariants.{Usage, Job, NoDetails, Plate, Page, Read, Write, Memory}
 use Rattle.page_output.specs.Output.{AnswersPut, PutsOut}
 use Rattle.trap_cli.specs.Endings.{AnswersCommand, CarriesOut}
-use Rattle.verdicts.specs.Verdicts.{Targets, written_names}
+use Rattle.page_files.specs.Verdicts.{Targets, written_names}
 
 unchanged : (a : RackState) → KeepsRack a a
 unchanged a = record { tells = refl; faults = omega arith }

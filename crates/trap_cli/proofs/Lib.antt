@@ -1,3 +1,5 @@
+pub mod PageLemmas
+mod WorkedWords
 pub mod EndLemmas
 pub mod OutputLemmas
 pub mod SampleLemmas

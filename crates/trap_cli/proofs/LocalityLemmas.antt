@@ -8,15 +8,15 @@ use Rattle.page_model.specs.Faults.{page_fault, difference, too_many, too_wide}
 use Rattle.page_model.specs.Page.{plates}
 use Rattle.lists.specs.Words.{or_else, first_some}
 use Rattle.page_model.proofs.FaultLemmas.{agrees_from}
-use Rattle.page_gather.specs.Inputs.{Sources, Inputs, one_page, plate_at}
+use Rattle.page_files.specs.Inputs.{Sources, Inputs, one_page, plate_at}
 use Rattle.pgm_plates.specs.declared.bounds.Bounds.TheVariants.{Page}
 use Rattle.pgm_plates.specs.declared.plate.Plate.{Plate as PlateRead}
 use Rattle.pgm_plates.specs.Planes.{plane_of}
 use Rattle.pgm_plates.specs.Plates.{IsPlate}
-use Rattle.page_gather.specs.Assembly.{assembly, assembled, detailed, faulted, without_details}
+use Rattle.page_files.specs.Assembly.{assembly, assembled, detailed, faulted, without_details}
 use Rattle.lists.proofs.FirstSome.{both_none, each_none}
-use Rattle.verdicts.specs.Locality.{ChangesNearEdges}
-use Rattle.verdicts.proofs.LocalityLemmas.{changes_near}
+use Rattle.page_files.specs.Locality.{ChangesNearEdges}
+use Rattle.page_files.proofs.LocalityLemmas.{changes_near}
 
 -- parts without a fault are the page that is made
 without_fault : (o : Option PageFault) (parts made : PageParts) → faulted parts o ≡ Ok made → (parts ≡ made) × (o ≡ None)

@@ -11,7 +11,7 @@ use Rattle.trap_engine.specs.Receipts.{IsWholeReceipt}
 use Rattle.refusals.specs.declared.refusal.Refusal.{Refusal}
 use Rattle.refusals.specs.declared.refusal.Refusal.TheVariants.{Memory}
 use Rattle.trap_report.specs.Report.{report_of}
-use Rattle.trap_words.specs.Words.{SampleWords}
+use Rattle.trap_cli.specs.Words.{SampleWords}
 use Rattle.page_output.specs.declared.outcome.Outcome.{Outcome}
 use Rattle.trap_cli.specs.Commands.{sample_band}
 use Rattle.refusals.specs.Statuses.{done, not_written}

@@ -9,25 +9,25 @@ use Rattle.outside.specs.Rack.{RackState}
 use Rattle.job_reader.specs.declared.job.Job.{Job}
 use Rattle.page_model.specs.declared.page.PageFault.TheVariants.{TooManySamples}
 use Rattle.page_model.specs.declared.parts.PageParts.{PageParts}
-use Rattle.page_gather.specs.Assembly.{assembly}
-use Rattle.page_gather.specs.Inputs.{Inputs, one_page, read_files}
-use Rattle.page_gather.specs.Gathering.{BreaksReading, InHand, IsMade, files_to}
-use Rattle.page_gather.specs.Steps.{PassesNoFault}
+use Rattle.page_files.specs.Assembly.{assembly}
+use Rattle.page_files.specs.Inputs.{Inputs, one_page, read_files}
+use Rattle.page_files.specs.Gathering.{BreaksReading, InHand, IsMade, files_to}
+use Rattle.page_files.specs.Steps.{PassesNoFault}
 use Rattle.pgm_plates.specs.declared.plate.Plate.{Plate as PlateRead}
-use Rattle.page_writing.specs.Files.{Written, put_all}
-use Rattle.page_writing.specs.Writing.{Breaks, FinishesAll}
+use Rattle.page_files.specs.Files.{Written, put_all}
+use Rattle.page_files.specs.Writing.{Breaks, FinishesAll}
 use Rattle.refusals.specs.declared.refusal.Refusal.{Refusal}
 use Rattle.refusals.specs.declared.refusal.Refusal.TheVariants as Refusals
 use Rattle.refusals.specs.Refusals.{line_of, status_of}
 use Rattle.refusals.specs.Statuses.{done, usage, job_refused, page_refused, not_read}
 use Rattle.refusals.specs.Statuses.{not_written, out_of_memory}
 use Rattle.refusals.specs.Telling.{TellsText, TellsAfterFault}
-use Rattle.trap_words.specs.Words.{PageWords, SampleWords, begins_with_page, command_of, Page}
-use Rattle.trap_words.specs.Words.{Sample}
+use Rattle.trap_cli.specs.Words.{PageWords, SampleWords, begins_with_page, command_of, Page}
+use Rattle.trap_cli.specs.Words.{Sample}
 use Rattle.trap_cli.specs.Commands.{sample_band, sources_of, targets_of}
 use Rattle.trap_cli.specs.Endings.{HasReceipt, IsSmall, sample_of, sample_report}
-use Rattle.verdicts.specs.Locality.{ChangesNearEdges}
-use Rattle.verdicts.specs.Verdicts.{IsVerdict, Refused, Out, outcome, written_names}
+use Rattle.page_files.specs.Locality.{ChangesNearEdges}
+use Rattle.page_files.specs.Verdicts.{IsVerdict, Refused, Out, outcome, written_names}
 
 -- The words are a command of this page.
 abbrev pub MeanPage : List (List ℕ) → PageWords → Type 0

@@ -1,9 +1,9 @@
 -- The files of a command of a page.
 use Rattle.std.specs.Prelude.{ℕ}
-use Rattle.page_gather.specs.Inputs.{Sources}
+use Rattle.page_files.specs.Inputs.{Sources}
 use Rattle.plain_words.specs.Plates.{inputs_of, names_of, outputs_of}
-use Rattle.trap_words.specs.Words.{PageWords}
-use Rattle.verdicts.specs.Verdicts.{Targets}
+use Rattle.trap_cli.specs.Words.{PageWords}
+use Rattle.page_files.specs.Verdicts.{Targets}
 
 -- the files that are read, with the plates' names
 abbrev pub sources_of : PageWords → Sources

@@ -10,22 +10,22 @@ use Rattle.page_model.specs.declared.page.PageFault.TheVariants.{TooManySamples}
 use Rattle.page_model.specs.Conditions.{IsPage}
 use Rattle.page_model.specs.Counts.{page_counts}
 use Rattle.page_model.specs.Limits.{most_samples}
-use Rattle.page_gather.specs.Gathering.{AnswersPage, InHand, IsMade}
-use Rattle.page_gather.specs.Inputs.{Sources, read_files}
-use Rattle.page_gather.specs.Steps.{PassesNoFault}
+use Rattle.page_files.specs.Gathering.{AnswersPage, InHand, IsMade}
+use Rattle.page_files.specs.Inputs.{Sources, read_files}
+use Rattle.page_files.specs.Steps.{PassesNoFault}
 use Rattle.page_source.specs.Sample.{sample_parts}
-use Rattle.page_writing.specs.Writing.{WritesAll, Breaks, FailsOnce, FinishesAll}
+use Rattle.page_files.specs.Writing.{WritesAll, Breaks, FailsOnce, FinishesAll}
 use Rattle.trap_engine.specs.Receipts.{IsWholeReceipt}
 use Rattle.refusals.specs.declared.refusal.Refusal.{Refusal}
 use Rattle.refusals.specs.declared.refusal.Refusal.TheVariants.{Usage, Page, Write, Memory}
 use Rattle.trap_report.specs.Report.{report_of}
 use Rattle.refusals.specs.Statuses.{done, not_written}
 use Rattle.refusals.specs.Telling.{KeepsFiles, Refuses}
-use Rattle.trap_words.specs.Words.{PageWords, SampleWords, begins_with_page, command_of}
-use Rattle.trap_words.specs.Words.{Page as page_command, Sample as sample_command}
+use Rattle.trap_cli.specs.Words.{PageWords, SampleWords, begins_with_page, command_of}
+use Rattle.trap_cli.specs.Words.{Page as page_command, Sample as sample_command}
 use Rattle.page_output.specs.declared.outcome.Outcome.{Outcome}
 use Rattle.trap_cli.specs.Commands.{sample_band, sources_of, targets_of}
-use Rattle.verdicts.specs.Verdicts.{Targets, outcome, written_names}
+use Rattle.page_files.specs.Verdicts.{Targets, outcome, written_names}
 
 -- What the answer says where the page is read first.
 abbrev pub AnswersCommand : ℕ → Sources → Targets → TrayState → TrayState → RackState → RackState

@@ -1,3 +1,8 @@
+pub mod Options
+pub mod PageApp
+pub mod Plates
+pub mod Words
+pub mod Held
 pub mod Commands
 pub mod Endings
 pub mod Clauses

@@ -1,17 +1,17 @@
 ghost use Rattle.std.specs.Prelude.{◌≡◌, length, vec_len};
 ghost use Rattle.page_model.specs.Page.{plates};
-ghost use Rattle.trap_words.specs.Held.{IsPageWithin, page_in};
+ghost use Rattle.trap_cli.specs.Held.{IsPageWithin, page_in};
 ghost use Rattle.trap_cli.specs.Commands.{sources_of, targets_of};
-ghost use Rattle.page_gather.specs.Gathering.{ReadsPage};
+ghost use Rattle.page_files.specs.Gathering.{ReadsPage};
 ghost use Rattle.trap_cli.specs.Endings.{CarriesOut, EndsPage};
 ghost use Rattle.page_output.specs.Output.{PutsOut};
 
 use crate::ending::{Ended, end_with_refusal};
 use band_claims::Closed;
-use band_workers::Gate;
+use band_claims::Gate;
 use outside::rack::Rack;
 use outside::tray::Tray;
-use page_gather::gather::gather;
+use page_files::gather::gather;
 use page_model::page::Page;
 use page_model::parts::OutOfMemory;
 use page_output::output::{OutputArgs, put_out};
@@ -20,7 +20,7 @@ use refusals::refusal::Refusal;
 use refusals::statuses::DONE;
 use std::alloc::Global;
 use std::thread::Threads;
-use trap_words::command::PageArgs;
+use crate::command::PageArgs;
 
 // Runs the command `page`, and returns how it ended.
 pub(crate) fn run_page<H: Threads + Sync, T: Tray, R: Rack, G: Gate + Sync>(

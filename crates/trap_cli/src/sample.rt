@@ -3,12 +3,12 @@ ghost use Rattle.page_model.specs.Counts.{page_counts};
 ghost use Rattle.page_model.specs.Limits.{most_workers};
 ghost use Rattle.trap_engine.specs.Receipts.{IsWholeReceipt};
 ghost use Rattle.trap_report.specs.Report.{report_of};
-ghost use Rattle.trap_words.specs.Held.{IsSampleWithin, sample_in};
+ghost use Rattle.trap_cli.specs.Held.{IsSampleWithin, sample_in};
 ghost use Rattle.trap_cli.specs.Commands.{sample_band};
 ghost use Rattle.trap_cli.specs.Endings.{EndsSample, MakesReport};
 
 use crate::ending::{Ended, end_with_refusal};
-use band_workers::Gate;
+use band_claims::Gate;
 use outside::rack::Rack;
 use outside::tray::Failed;
 use page_model::page::{Page, PageFault};
@@ -19,7 +19,7 @@ use refusals::refusal::Refusal;
 use refusals::statuses::{DONE, NOT_WRITTEN};
 use std::alloc::Global;
 use std::thread::Threads;
-use trap_words::command::SampleArgs;
+use crate::command::SampleArgs;
 
 // The rows of a band in which a sample page is trapped.
 const SAMPLE_BAND: u32 = 64;

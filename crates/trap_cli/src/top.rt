@@ -6,7 +6,7 @@ pub use crate::ending::Ended;
 use crate::ending::end_with_refusal;
 use crate::page::run_page;
 use crate::sample::run_sample;
-use band_workers::Gate;
+use band_claims::Gate;
 use outside::rack::Rack;
 use outside::tray::Tray;
 use page_model::parts::OutOfMemory;
@@ -14,7 +14,7 @@ use pgm_plates::laws::{not_both, one_fault, one_plate};
 use refusals::refusal::Refusal;
 use std::alloc::Global;
 use std::thread::Threads;
-use trap_words::command::{Command, read_words};
+use crate::command::{Command, read_words};
 
 /// Runs the command of the words, and returns the status that the program exits with, and at status 0 the receipt of
 /// the work.

@@ -2,7 +2,7 @@
 use Rattle.std.proofs.Common.{refl, ◌≡◌, ℕ, ◌∙◌, ◌∷◌, ◌++◌, [], All, List, ap, arith, subst, sym}
 use Rattle.std.proofs.lemmas.List.Elements.{All-append, All-cons}
 use Rattle.page_model.specs.declared.bands.Bands.{Bands}
-use Rattle.row_cells.specs.Layouts.{Layout}
+use Rattle.band_core.specs.Layouts.{Layout}
 use Rattle.band_claims.specs.declared.table_key.TableKey.{TableKey}
 use Rattle.band_claims.specs.declared.view.View.{View}
 use Rattle.band_claims.specs.Shares.{IsWhole}

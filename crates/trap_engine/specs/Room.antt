@@ -4,7 +4,7 @@ use Rattle.band_claims.specs.Seating.{OpenTable, Seating, Seats}
 use Rattle.band_claims.specs.Shares.{IsWhole}
 use Rattle.band_claims.specs.Views.{newcomer}
 use Rattle.page_model.specs.declared.parts.PageParts.{PageParts}
-use Rattle.row_cells.specs.Layouts.{Layout}
+use Rattle.band_core.specs.Layouts.{Layout}
 use Rattle.band_pieces.specs.Room.{Memory}
 use Rattle.page_tally.specs.declared.outcome.Outcome.{Outcome}
 use Rattle.page_tally.specs.Tallies.{HasTallies}

@@ -20,7 +20,7 @@ use lists::list::List;
 use page_model::page::Page;
 use page_model::parts::Plane;
 use page_tally::{Outcome, differences};
-use row_cells::layout::Layout;
+use band_core::layout::Layout;
 use row_values::tints_of_row;
 use std::thread;
 use std::thread::Threads;

@@ -19,7 +19,7 @@ use page_model::bands::Bands;
 use page_model::page::Page;
 use page_model::parts::{OutOfMemory, Plane, PlaneList};
 use page_tally::Outcome;
-use row_cells::layout::Layout;
+use band_core::layout::Layout;
 use std::alloc::Global;
 use std::marker::Model;
 

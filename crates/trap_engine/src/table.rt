@@ -17,7 +17,7 @@ use crate::plates::{PlateWork, are_taken, put_works, take_by_readers, take_those
 use crate::room::TrapRoom;
 use band_claims::{Closed, Shared};
 use band_pieces::finish_table;
-use band_workers::{Gate, work_many};
+use band_claims::{Gate, work_many};
 use page_model::page::Page;
 use page_model::parts::OutOfMemory;
 use page_tally::{Outcome, Trapped};

@@ -13,7 +13,7 @@ use lists::memory::{no_counts, vec_of};
 use page_model::page::Page;
 use page_model::parts::{OutOfMemory, Plane};
 use page_tally::{count_changed, count_zones, edges_in, note_changes};
-use row_cells::layout::Layout;
+use band_core::layout::Layout;
 use row_values::Rows;
 use std::alloc::Global;
 

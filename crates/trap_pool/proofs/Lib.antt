@@ -1,3 +1,6 @@
+pub mod Keeps
+pub mod Pushes
+pub mod Rooms
 pub mod Turns
 pub mod Settling
 pub mod Numbers

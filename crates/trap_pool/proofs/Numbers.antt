@@ -2,8 +2,8 @@
 use Rattle.std.proofs.Common.{◌≡◌, ℕ, ◌+◌, ◌<◌, List, [], ◌∷◌, ◌++◌, sym, arith}
 use mathlib.Core.Logic.{dite}
 use native.Mathlib.Decide.{ℕ_discrete}
-use Rattle.line_queue.specs.Rule.{Ascends, IsAbove, times}
-use Rattle.line_queue.proofs.Keeps.{here, there}
+use Rattle.trap_pool.specs.Rule.{Ascends, IsAbove, times}
+use Rattle.trap_pool.proofs.Keeps.{here, there}
 
 times_after : (x : ℕ) (xs : List ℕ) (n : ℕ) → times x (xs ++ n ∷ []) ≡ times x xs + times x (n ∷ [])
 times_after x [] n = omega arith

@@ -1,7 +1,7 @@
 -- Replies whose accepted pages are done one after another.
 use Rattle.std.proofs.Common.{◌≡◌, ◌∙◌, ℕ, suc, ◌+◌, List, [], ◌∷◌, Option, Some, None, inl, inr, refl, sym, ap, subst, arith}
 use Rattle.outside.specs.Tray.{TrayState}
-use Rattle.page_gather.specs.Gathering.{Gathers}
+use Rattle.page_files.specs.Gathering.{Gathers}
 use Rattle.page_model.specs.declared.parts.PageParts.{PageParts}
 use Rattle.job_list.specs.Lines.{LineParts}
 use Rattle.page_tally.specs.declared.outcome.Trapped.{Trapped}

@@ -3,8 +3,8 @@ use Rattle.std.proofs.Common.{◌≡◌, ◌↔◌, ◌∙◌, ℕ, suc, ◌+◌
 use Rattle.std.proofs.lemmas.List.{length-take-le, take_more}
 use Rattle.outside.specs.Tray.{TrayState, KeepsTray}
 use Rattle.outside.proofs.Steps.{kept_tray}
-use Rattle.page_gather.specs.Gathering.{AnswersPage, Gathers}
-use Rattle.page_gather.specs.Inputs.{Makes, Sources, one_page, sources}
+use Rattle.page_files.specs.Gathering.{AnswersPage, Gathers}
+use Rattle.page_files.specs.Inputs.{Makes, Sources, one_page, sources}
 use Rattle.page_model.specs.declared.parts.PageParts.{PageParts}
 use Rattle.job_list.specs.Lines.{LineParts}
 use Rattle.refusals.specs.declared.refusal.Refusal.{Refusal}

@@ -1,3 +1,5 @@
+pub mod Rule
+pub mod Serving
 pub mod Replies
 pub mod Pools
 pub mod Made

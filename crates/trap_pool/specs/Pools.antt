@@ -2,13 +2,13 @@
 use Rattle.std.specs.Prelude.{◌≡◌, ◌↔◌, ℕ, ◌+◌, ◌-◌, ◌^◌, ◌<◌, ◌≤◌, IsTrue, List, [], ◌∷◌, ◌++◌}
 use Rattle.std.specs.Prelude.{length, Option, Some, None, Result, Ok, Err}
 use Rattle.outside.specs.Tray.{TrayState, KeepsTray}
-use Rattle.page_gather.specs.Gathering.{Gathers}
-use Rattle.page_gather.specs.Inputs.{Makes, Sources, one_page, sources}
+use Rattle.page_files.specs.Gathering.{Gathers}
+use Rattle.page_files.specs.Inputs.{Makes, Sources, one_page, sources}
 use Rattle.page_model.specs.declared.parts.PageParts.{PageParts}
 use Rattle.job_list.specs.Lines.{LineParts}
 use Rattle.refusals.specs.declared.refusal.Refusal.{Refusal}
 use Rattle.refusals.specs.declared.refusal.Refusal.TheVariants.{Read, Memory}
-use Rattle.verdicts.specs.Verdicts.{IsVerdict, Refused as refused_verdict, Targets}
+use Rattle.page_files.specs.Verdicts.{IsVerdict, Refused as refused_verdict, Targets}
 use Rattle.trap_pool.specs.declared.outcome.Outcome.{Outcome}
 use Rattle.trap_pool.specs.declared.outcome.Outcome.TheVariants.{Done, Refused, TooLarge}
 use Rattle.trap_pool.specs.Replies.{ReplyParts, IsReply, accepted, accepted_of, all_samples}

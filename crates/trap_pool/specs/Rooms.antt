@@ -1,8 +1,8 @@
 -- The room that a pool takes before it begins.
 use Rattle.std.specs.Prelude.{◌≡◌, ℕ, ◌≤◌, ◌<◌, true, [], vec_capacity, vec_len, All}
 use Rattle.crossbeam_queue.specs.Passes.{IsPassOf, view}
-use Rattle.line_queue.specs.Rule.{pass_view, whole}
-use Rattle.line_queue.specs.Serving.{IsUnused}
+use Rattle.trap_pool.specs.Rule.{pass_view, whole}
+use Rattle.trap_pool.specs.Serving.{IsUnused}
 use Rattle.trap_pool.specs.declared.gathering.Gathering.{Gathering}
 use Rattle.trap_pool.specs.declared.pool.PoolRoom.{PoolRoom}
 use Rattle.trap_pool.specs.declared.trapping.Opening.{Opening}

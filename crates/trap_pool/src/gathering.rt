@@ -1,5 +1,5 @@
 ghost use Rattle.std.specs.Prelude.{◌≡◌, ◌+◌, ◌<◌, ◌≤◌, ◌^◌, length};
-ghost use Rattle.page_gather.specs.Gathering.{Gathers};
+ghost use Rattle.page_files.specs.Gathering.{Gathers};
 ghost use Rattle.trap_pool.specs.Pools.{AnswersLine, InTurn, source_of};
 ghost use Rattle.trap_pool.specs.Replies.{accepted_of, most_in_all};
 ghost use Rattle.trap_pool.specs.Rooms.{IsRoomOf};
@@ -8,7 +8,7 @@ ghost use Rattle.trap_pool.specs.Taking.{pages_of, waiting_of};
 use crate::gathered::Gathered;
 use job_list::line::{LineList, ListLine};
 use outside::tray::Tray;
-use page_gather::gather::gather;
+use page_files::gather::gather;
 use page_model::page::Page;
 use std::alloc::Global;
 

@@ -1,7 +1,7 @@
 ghost use Rattle.std.specs.Prelude.{◌≡◌, ◌+◌, ◌≤◌, ◌<◌, ◌^◌, IfOk, true, [], length, vec_capacity, vec_len, All};
 ghost use Rattle.crossbeam_queue.specs.Passes.{IsPassOf, view};
-ghost use Rattle.line_queue.specs.Rule.{Ascends, IsAbove, pass_view, whole};
-ghost use Rattle.line_queue.specs.Serving.{IsUnused};
+ghost use Rattle.trap_pool.specs.Rule.{Ascends, IsAbove, pass_view, whole};
+ghost use Rattle.trap_pool.specs.Serving.{IsUnused};
 ghost use Rattle.trap_pool.specs.Pools.{AnswersPool};
 ghost use Rattle.trap_pool.specs.Rooms.{IsOpen, IsRoomFor};
 ghost use Rattle.page_model.specs.Limits.{most_workers};
@@ -12,7 +12,7 @@ use crate::taking::replies_of;
 use crate::trapping::{Opening, trap_lines};
 use crate::work::TakeGate;
 use job_list::line::LineList;
-use line_queue::{open_queue, rooms_of};
+use crate::{open_queue, rooms_of};
 use lists::list::List;
 use outside::tray::Tray;
 use page_model::page::Page;

@@ -1,7 +1,7 @@
 // The workers at the pages that were gathered.
 
 ghost use Rattle.std.specs.Prelude.{◌≡◌, ◌<◌, ◌^◌, vec_len};
-ghost use Rattle.line_queue.specs.Rule.{Ascends};
+ghost use Rattle.trap_pool.specs.Rule.{Ascends};
 ghost use Rattle.trap_pool.specs.Rooms.{IsOpen};
 ghost use Rattle.trap_pool.specs.Taking.{AllSettled, pages_of};
 
@@ -10,7 +10,7 @@ use crate::gathering::Gathering;
 use crate::slot::Lines;
 use crate::taking::{slots_of, take_in};
 use crate::work::{PageWork, TakeGate};
-use line_queue::{LinePass, LineQueue, Rooms, push_lines, serve_all};
+use crate::{LinePass, LineQueue, Rooms, push_lines, serve_all};
 use std::alloc::Global;
 use std::sync::{Mutex, Wait};
 use std::thread::Threads;

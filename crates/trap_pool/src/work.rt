@@ -1,6 +1,6 @@
 use crate::desk::Desk;
 use crate::slot::{Lines, Slot};
-use line_queue::LineWork;
+use crate::LineWork;
 use std::alloc::Global;
 use std::sync::{Mutex, Wait};
 

@@ -1,8 +1,10 @@
-//! The report of a page that was trapped, as text. The crate refusals has the line and the status of each refusal.
+//! The report of a sheet, written line by line to its file. Nothing is allocated.
 #![tactic(auto)]
 
+pub mod file;
 pub mod lines;
 pub mod parts;
+mod pieces;
 pub mod report;
+mod written_lines;
 
-pub use refusals::{fault_line, refusal};

@@ -8,8 +8,8 @@ use Rattle.page_model.specs.declared.parts.Plane.{Plane}
 use Rattle.page_model.specs.Planes.{plane_at, no_plane, tints_of}
 use Rattle.lists.specs.Words.{any_below, list_below, or_else}
 use Rattle.lists.proofs.ListBelow.{length-list_below, list_below-at, list_below-of, list_below-from}
-use Rattle.plane_shapes.specs.Shapes.{wide, tall}
-use Rattle.plane_shapes.proofs.ShapeLemmas.{plane_of, like_of, tints_count}
+use Rattle.page_model.specs.Shapes.{wide, tall}
+use Rattle.page_model.proofs.ShapeLemmas.{plane_of, like_of, tints_count}
 use Rattle.trap_set.specs.Applied.{covering, tint_by, applied_plane, applied}
 use Rattle.trap_set.specs.Runs.{Run, covers, tint_at, changes, same_tints, goes_on, begins, run_on, run_at, runs_below, trap_runs, ArePair}
 

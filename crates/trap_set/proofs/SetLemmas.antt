@@ -9,8 +9,8 @@ use Rattle.std.proofs.lemmas.Bool.{cases_Bool, cases_lt, cases_order, and_parts,
 use Rattle.std.proofs.lemmas.List.Elements.{All-append, All-push}
 use Rattle.page_model.specs.declared.parts.Plane.{Plane}
 use Rattle.lists.proofs.ListBelow.{length-list_below, all_below}
-use Rattle.plane_shapes.specs.Shapes.{wide, tall, deep}
-use Rattle.plane_shapes.proofs.ShapeLemmas.{plane_of, like_of, tints_count}
+use Rattle.page_model.specs.Shapes.{wide, tall, deep}
+use Rattle.page_model.proofs.ShapeLemmas.{plane_of, like_of, tints_count}
 use Rattle.trap_set.specs.Runs.{Run, covers, tint_at, changes, goes_on, begins, run_on, run_at, runs_below, trap_runs, ArePair}
 use Rattle.trap_set.specs.SetText.{IsRun, IsSet, Follows, head_of}
 use Rattle.trap_set.proofs.RunLemmas.{covered, row_of, each_goes_on}

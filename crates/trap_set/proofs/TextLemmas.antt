@@ -10,7 +10,7 @@ use Rattle.std.proofs.lemmas.Nat.{div-mul-add, mod-mul-add}
 use Rattle.page_model.specs.declared.parts.Plane.{Plane}
 use Rattle.lists.specs.Words.{list_below}
 use Rattle.lists.proofs.ListBelow.{list_below-add}
-use Rattle.plane_shapes.specs.Shapes.{wide, tall}
+use Rattle.page_model.specs.Shapes.{wide, tall}
 use Rattle.trap_set.specs.Runs.{Run, goes_on, begins, run_on, run_at, runs_below, trap_runs}
 use Rattle.trap_set.specs.Rows.{run_text, row_text, rows_text}
 use Rattle.trap_set.specs.SetText.{SetHead, number, title_line, page_line, run_line, end_line, head_of, set_text}

@@ -1,7 +1,7 @@
 -- The text of a set row by row, as it is written.
 use Rattle.std.specs.Prelude.{ℕ, zero, suc, List, [], ◌++◌, if◌then◌else◌}
 use Rattle.page_model.specs.declared.parts.Plane.{Plane}
-use Rattle.plane_shapes.specs.Shapes.{wide}
+use Rattle.page_model.specs.Shapes.{wide}
 use Rattle.trap_set.specs.Runs.{begins, run_at}
 use Rattle.trap_set.specs.SetText.{run_line}
 

@@ -5,7 +5,7 @@ use Rattle.std.specs.Prelude.{if◌then◌else◌}
 use Rattle.page_model.specs.declared.parts.Plane.{Plane}
 use Rattle.page_model.specs.Planes.{tints_of}
 use Rattle.lists.specs.Words.{any_below, list_below}
-use Rattle.plane_shapes.specs.Shapes.{AreOneShape, wide, tall, deep}
+use Rattle.page_model.specs.Shapes.{AreOneShape, wide, tall, deep}
 
 -- neighbouring samples of row y, from column x on, that all get the same tints, one for each plate
 pub record Run : Type 0 where

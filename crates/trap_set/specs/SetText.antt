@@ -5,7 +5,7 @@ use Rattle.std.specs.Fmt.{decimal}
 use Rattle.std.specs.List.{flat_map}
 use Rattle.page_model.specs.declared.parts.Plane.{Plane}
 use Rattle.page_model.specs.Limits.{most_maxval, most_plates, most_samples, most_side}
-use Rattle.plane_shapes.specs.Shapes.{wide, tall, deep}
+use Rattle.page_model.specs.Shapes.{wide, tall, deep}
 use Rattle.trap_set.specs.Runs.{Run, trap_runs}
 
 -- what the second line of a set says: the sides and the maxval of the planes, and how many they are

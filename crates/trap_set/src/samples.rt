@@ -2,7 +2,7 @@
 
 ghost use Rattle.std.specs.Prelude.{◌≡◌, ◌<◌, ◌≤◌, ◌+◌, ◌*◌, ◌==◌, ℕ, IsTrue, EachIndex, false, not, suc, length, slice_index, slice_range};
 ghost use Rattle.page_model.specs.Planes.{tints_of};
-ghost use Rattle.plane_shapes.specs.Shapes.{AreOneShape, wide, tall};
+ghost use Rattle.page_model.specs.Shapes.{AreOneShape, wide, tall};
 ghost use Rattle.trap_set.specs.Runs.{ArePair, begins, changes, goes_on, run_at, same_tints, tint_at};
 
 use page_model::parts::PlaneList;

@@ -1,6 +1,6 @@
 ghost use Rattle.std.specs.Prelude.{◌≡◌, ◌++◌, [], IsTrue, OnOk};
 ghost use Rattle.outside.specs.Writing.{FillsFile, WritesFile};
-ghost use Rattle.plane_shapes.specs.Shapes.{wide, tall};
+ghost use Rattle.page_model.specs.Shapes.{wide, tall};
 ghost use Rattle.trap_set.specs.Holding.{Puts};
 ghost use Rattle.trap_set.specs.Rows.{rows_text};
 ghost use Rattle.trap_set.specs.Runs.{ArePair};

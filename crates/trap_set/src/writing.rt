@@ -3,7 +3,7 @@
 ghost use Rattle.std.specs.Prelude.{◌≡◌, ◌<◌, ◌∷◌, ◌++◌, [], IsTrue, codes, length};
 ghost use Rattle.std.specs.List.{flat_map};
 ghost use Rattle.lists.specs.Words.{list_below};
-ghost use Rattle.plane_shapes.specs.Shapes.{AreOneShape, wide, tall};
+ghost use Rattle.page_model.specs.Shapes.{AreOneShape, wide, tall};
 ghost use Rattle.trap_set.specs.Holding.{Puts};
 ghost use Rattle.trap_set.specs.Rows.{row_text, rows_text, run_text};
 ghost use Rattle.trap_set.specs.Runs.{ArePair, run_at, tint_at};

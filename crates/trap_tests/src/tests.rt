@@ -9,7 +9,7 @@ mod workers;
 mod writing;
 
 use self::failing::{holds_up_to, is_broken};
-use band_workers::{Gate, OpenGate};
+use band_claims::{Gate, OpenGate};
 use lists::list::List;
 use lists::memory::push;
 use outside::mem_file::{FileList, MemFile};

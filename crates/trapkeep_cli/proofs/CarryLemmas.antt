@@ -8,15 +8,15 @@ use Rattle.outside.specs.Causes.{Asks}
 use Rattle.outside.specs.Tray.{TrayState}
 use Rattle.outside.specs.Rack.{RackState, KeepsRack}
 use Rattle.outside.proofs.Names.{asks_none_of}
-use Rattle.page_gather.specs.Gathering.{AnswersPage, Gathers, ReadsPage}
-use Rattle.page_gather.specs.Inputs.{read_files}
-use Rattle.page_gather.specs.Steps.{PassesNoFault}
-use Rattle.page_gather.proofs.GatherLemmas.{gathered, refused_count}
+use Rattle.page_files.specs.Gathering.{AnswersPage, Gathers, ReadsPage}
+use Rattle.page_files.specs.Inputs.{read_files}
+use Rattle.page_files.specs.Steps.{PassesNoFault}
+use Rattle.page_files.proofs.GatherLemmas.{gathered, refused_count}
 use Rattle.page_model.specs.declared.parts.PageParts.{PageParts}
 use Rattle.page_model.specs.declared.parts.Plane.{Plane}
 use Rattle.page_model.specs.Conditions.{IsPage}
-use Rattle.page_writing.specs.Files.{plate_files}
-use Rattle.page_writing.specs.Writing.{FinishesAll}
+use Rattle.page_files.specs.Files.{plate_files}
+use Rattle.page_files.specs.Writing.{FinishesAll}
 use Rattle.refusals.specs.declared.refusal.Refusal.{Refusal}
 use Rattle.refusals.specs.declared.refusal.Refusal.TheVariants as refusals
 use Rattle.trapkeep_cli.specs.declared.cause.KeepError.{KeepError}

@@ -5,9 +5,9 @@ use Rattle.keep_words.specs.Words.{KeepWords, keep_of}
 use Rattle.outside.specs.Causes.{Rose, RoseOnce, Asks, AsksPrefix}
 use Rattle.outside.specs.Tray.{TrayState}
 use Rattle.outside.specs.Rack.{RackState, KeepsRack}
-use Rattle.page_gather.specs.Inputs.{one_page}
-use Rattle.page_writing.proofs.Told.{breaks_cause, file_breaks, line_after}
-use Rattle.page_writing.specs.Files.{Written}
+use Rattle.page_files.specs.Inputs.{one_page}
+use Rattle.page_files.proofs.Told.{breaks_cause, file_breaks, line_after}
+use Rattle.page_files.specs.Files.{Written}
 use Rattle.trapkeep_cli.specs.declared.cause.KeepError.{KeepError}
 use Rattle.trapkeep_cli.specs.declared.cause.KeepError.TheVariants as causes
 use Rattle.trapkeep_cli.specs.Causes.{RefusesCause, cause_line, cause_status}
@@ -18,7 +18,7 @@ use Rattle.trapkeep_cli.specs.Verdicts.{IsVerdict, Refused, Out}
 use Rattle.trapkeep_cli.proofs.OneVerdict.{one_cause, out_or_refused}
 use Rattle.refusals.specs.declared.refusal.Refusal.TheVariants as refusals
 use Rattle.refusals.specs.Telling.{KeepsFiles, TellsText, TellsAfterFault}
-use Rattle.verdicts.proofs.VerdictLemmas.{PlateLaws}
+use Rattle.page_files.proofs.VerdictLemmas.{PlateLaws}
 
 not_written_then : (keep : KeepWords) (t t' : TrayState) (a b c : RackState) (cause : KeepError) → KeepsRack a b → NotWritten keep t t' a b cause → KeepsFiles b c → NotWritten keep t t' a c cause
 not_written_then keep t t' a b c cause keeps broke files = record {

@@ -4,10 +4,10 @@ use Rattle.std.proofs.lemmas.List.{same_lists, get_or_default}
 use Rattle.std.proofs.lemmas.Option.{same_Some}
 use Rattle.job_reader.specs.declared.job.Job.{Job as JobRead}
 use Rattle.keep_words.specs.Words.{KeepWords}
-use Rattle.page_gather.specs.Assembly.{assembly}
-use Rattle.page_gather.specs.Inputs.{AreRead, Holds, Makes, name_at, no_plate, one_page, plate_at}
+use Rattle.page_files.specs.Assembly.{assembly}
+use Rattle.page_files.specs.Inputs.{AreRead, Holds, Makes, name_at, no_plate, one_page, plate_at}
 use Rattle.page_model.specs.declared.parts.PageParts.{PageParts}
-use Rattle.page_writing.specs.Files.{Written}
+use Rattle.page_files.specs.Files.{Written}
 use Rattle.pgm_plates.specs.declared.plate.Plate.{Plate as PlateRead}
 use Rattle.pgm_plates.specs.Plates.{IsPlateFile}
 use Rattle.ps_tokens.specs.declared.faults.JobFault.{JobFault}
@@ -16,8 +16,8 @@ use Rattle.trapkeep_cli.specs.declared.cause.KeepError.{KeepError}
 use Rattle.trapkeep_cli.specs.declared.cause.KeepError.TheVariants as causes
 use Rattle.trapkeep_cli.specs.Commands.{IsWide, sources_of}
 use Rattle.trapkeep_cli.specs.Verdicts.{IsVerdict, Refused, Out, no_files}
-use Rattle.verdicts.specs.Verdicts.{Verdict as PageVerdict, IsVerdict as IsPageVerdict, Refused as page_refused, Out as page_out, outcome}
-use Rattle.verdicts.proofs.VerdictLemmas.{PlateLaws, one_verdict}
+use Rattle.page_files.specs.Verdicts.{Verdict as PageVerdict, IsVerdict as IsPageVerdict, Refused as page_refused, Out as page_out, outcome}
+use Rattle.page_files.proofs.VerdictLemmas.{PlateLaws, one_verdict}
 
 -- a file has one list of bytes
 held_both : (files : List ℕ → Option (List ℕ)) (name : List ℕ) (F G : List ℕ → Type 0) → Holds files name F → Holds files name G → (bytes : List ℕ) × F bytes × G bytes

@@ -10,9 +10,9 @@ use Rattle.page_model.specs.declared.parts.Plane.{Plane}
 use Rattle.page_model.specs.Conditions.{IsPage}
 use Rattle.plain_words.specs.Parts.{parts_of}
 use Rattle.plain_words.specs.Plates.{outputs_of}
-use Rattle.page_writing.specs.Files.{names_of}
-use Rattle.page_writing.specs.Writing.{AnswersWriting, FailsOnce, WritesPage}
-use Rattle.page_writing.proofs.Steps.{page_names}
+use Rattle.page_files.specs.Files.{names_of}
+use Rattle.page_files.specs.Writing.{AnswersWriting, FailsOnce, WritesPage}
+use Rattle.page_files.proofs.Steps.{page_names}
 use Rattle.refusals.specs.declared.refusal.Refusal.{Refusal}
 use Rattle.refusals.specs.declared.refusal.Refusal.TheVariants as refusals
 use Rattle.trapkeep_cli.specs.declared.cause.KeepError.{KeepError}

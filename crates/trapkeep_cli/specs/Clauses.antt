@@ -8,11 +8,11 @@ use Rattle.keepaway.specs.Laws.{Locality as PixelLocality}
 use Rattle.outside.specs.Causes.{Rose, Asks, AsksPrefix}
 use Rattle.outside.specs.Tray.{TrayState}
 use Rattle.outside.specs.Rack.{RackState}
-use Rattle.page_gather.specs.Inputs.{Makes, one_page, read_files}
+use Rattle.page_files.specs.Inputs.{Makes, one_page, read_files}
 use Rattle.page_model.specs.declared.parts.At.{At}
 use Rattle.page_model.specs.declared.parts.PageParts.{PageParts}
-use Rattle.page_writing.specs.Files.{Written, put_all}
-use Rattle.page_writing.specs.Writing.{Breaks, FinishesAll}
+use Rattle.page_files.specs.Files.{Written, put_all}
+use Rattle.page_files.specs.Writing.{Breaks, FinishesAll}
 use Rattle.refusals.specs.declared.refusal.Refusal.TheVariants.{Write}
 use Rattle.refusals.specs.Statuses.{done, usage, job_refused, page_refused, not_read}
 use Rattle.refusals.specs.Statuses.{not_written, out_of_memory}

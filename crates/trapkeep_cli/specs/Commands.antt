@@ -3,7 +3,7 @@ use Rattle.std.specs.Prelude.{◌≡◌, ℕ, ◌*◌, ◌<◌, List, ◌∷◌,
 use Rattle.keep_words.specs.Words.{KeepWords}
 use Rattle.keepaway.specs.declared.parts.RichBlack.{RichBlack}
 use Rattle.keepaway.specs.Keepaway.{pixel}
-use Rattle.page_gather.specs.Inputs.{Sources}
+use Rattle.page_files.specs.Inputs.{Sources}
 use Rattle.page_model.specs.declared.parts.PageParts.{PageParts}
 use Rattle.page_model.specs.Limits.{most_reach}
 use Rattle.plain_words.specs.Plates.{inputs_of, names_of, outputs_of}

@@ -6,13 +6,13 @@ use Rattle.keepaway.specs.declared.parts.RichBlack.{RichBlack}
 use Rattle.outside.specs.Causes.{Rose, RoseOnce, Asks, AsksPrefix}
 use Rattle.outside.specs.Tray.{TrayState}
 use Rattle.outside.specs.Rack.{RackState, KeepsRack}
-use Rattle.page_gather.specs.Gathering.{BreaksReading, InHand, files_to}
-use Rattle.page_gather.specs.Inputs.{read_files}
-use Rattle.page_gather.specs.Steps.{PassesNoFault}
+use Rattle.page_files.specs.Gathering.{BreaksReading, InHand, files_to}
+use Rattle.page_files.specs.Inputs.{read_files}
+use Rattle.page_files.specs.Steps.{PassesNoFault}
 use Rattle.page_model.specs.declared.parts.PageParts.{PageParts}
 use Rattle.page_model.specs.Conditions.{IsPage}
-use Rattle.page_writing.specs.Files.{Written}
-use Rattle.page_writing.specs.Writing.{Breaks, FinishesAll, WritesAll}
+use Rattle.page_files.specs.Files.{Written}
+use Rattle.page_files.specs.Writing.{Breaks, FinishesAll, WritesAll}
 use Rattle.refusals.specs.declared.refusal.Refusal.TheVariants.{Read, Write, Memory}
 use Rattle.refusals.specs.Statuses.{done, job_refused, page_refused, not_read}
 use Rattle.trapkeep_cli.specs.declared.cause.KeepError.{KeepError}

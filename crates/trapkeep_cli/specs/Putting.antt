@@ -10,8 +10,8 @@ use Rattle.page_model.specs.declared.parts.Plane.{Plane}
 use Rattle.page_model.specs.Conditions.{IsPage, IsPlane}
 use Rattle.page_model.specs.Limits.{most_samples}
 use Rattle.page_model.specs.Page.{plates}
-use Rattle.page_writing.specs.Files.{names_of}
-use Rattle.page_writing.specs.Writing.{Breaks, WritesAll}
+use Rattle.page_files.specs.Files.{names_of}
+use Rattle.page_files.specs.Writing.{Breaks, WritesAll}
 use Rattle.refusals.specs.declared.refusal.Refusal.TheVariants.{Write, Memory}
 use Rattle.trapkeep_cli.specs.declared.cause.KeepError.{KeepError}
 use Rattle.trapkeep_cli.specs.declared.cause.KeepError.TheVariants.{Page, TooWide}

@@ -3,13 +3,13 @@ use Rattle.std.specs.Prelude.{◌≡◌, ℕ, List, [], ◌∷◌, Option, Ok}
 use Rattle.keep_pages.specs.KeptPages.{keep_report, kept_planes}
 use Rattle.keep_words.specs.Words.{KeepWords}
 use Rattle.keepaway.specs.declared.parts.RichBlack.{RichBlack}
-use Rattle.page_gather.specs.Inputs.{Makes, one_page}
+use Rattle.page_files.specs.Inputs.{Makes, one_page}
 use Rattle.page_model.specs.declared.parts.PageParts.{PageParts}
-use Rattle.page_writing.specs.Files.{Written, page_files}
+use Rattle.page_files.specs.Files.{Written, page_files}
 use Rattle.trapkeep_cli.specs.declared.cause.KeepError.{KeepError}
 use Rattle.trapkeep_cli.specs.declared.cause.KeepError.TheVariants.{NoCommand, Page, TooWide}
 use Rattle.trapkeep_cli.specs.Commands.{IsRich, IsWide, sources_of, written_plates}
-use Rattle.verdicts.specs.Verdicts.{Targets, IsVerdict as IsPageVerdict, Refused as page_refused}
+use Rattle.page_files.specs.Verdicts.{Targets, IsVerdict as IsPageVerdict, Refused as page_refused}
 
 -- what is to come
 pub data Verdict : Type 0 where

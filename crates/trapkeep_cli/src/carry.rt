@@ -1,6 +1,6 @@
 ghost use Rattle.std.specs.Prelude.{◌≡◌, length};
 ghost use Rattle.keep_words.specs.Held.{IsWithin, keep_in};
-ghost use Rattle.page_gather.specs.Gathering.{ReadsPage};
+ghost use Rattle.page_files.specs.Gathering.{ReadsPage};
 ghost use Rattle.trapkeep_cli.specs.Commands.{sources_of};
 ghost use Rattle.trapkeep_cli.specs.Endings.{CarriesOut, EndsCommand};
 
@@ -9,7 +9,7 @@ use crate::page::put_page;
 use keep_words::words::KeepArgs;
 use outside::rack::Rack;
 use outside::tray::Tray;
-use page_gather::gather::gather;
+use page_files::gather::gather;
 use page_model::page::Page;
 use plain_words::files::{plate_inputs, plate_names};
 use refusals::refusal::Refusal;

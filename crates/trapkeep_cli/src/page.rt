@@ -16,7 +16,7 @@ use keepaway::RichBlack;
 use outside::rack::Rack;
 use page_model::page::Page;
 use page_model::parts::OutOfMemory;
-use page_writing::writing::write_page;
+use page_files::writing::write_page;
 use plain_words::files::plate_outputs;
 use refusals::refusal::Refusal;
 use std::alloc::Global;

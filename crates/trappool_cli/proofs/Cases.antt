@@ -6,11 +6,11 @@ use Rattle.outside.specs.Rack.{RackState, KeepsRack}
 use Rattle.outside.specs.Tray.{TrayState, KeepsTray}
 use Rattle.outside.proofs.Names.{asks_none_of}
 use Rattle.outside.proofs.Steps.{kept_tray}
-use Rattle.page_gather.specs.Gathering.{AnswersPage, Gathers}
-use Rattle.page_gather.specs.Inputs.{Makes, one_page, read_files}
+use Rattle.page_files.specs.Gathering.{AnswersPage, Gathers}
+use Rattle.page_files.specs.Inputs.{Makes, one_page, read_files}
 use Rattle.page_model.specs.declared.parts.PageParts.{PageParts}
-use Rattle.page_writing.specs.Files.{Written}
-use Rattle.page_writing.specs.Writing.{Breaks}
+use Rattle.page_files.specs.Files.{Written}
+use Rattle.page_files.specs.Writing.{Breaks}
 use Rattle.job_list.specs.Lines.{LineParts}
 use Rattle.trap_pool.specs.declared.outcome.Outcome.{Outcome}
 use Rattle.trap_pool.specs.declared.outcome.Outcome.TheVariants as outcomes
@@ -19,7 +19,7 @@ use Rattle.trap_pool.specs.Replies.{ReplyParts, IsReading, IsReply, accepted_of,
 use Rattle.trap_pool.proofs.Turns.{keeps_in_turn}
 use Rattle.refusals.specs.declared.refusal.Refusal.{Refusal}
 use Rattle.refusals.specs.declared.refusal.Refusal.TheVariants as refusals
-use Rattle.verdicts.specs.Verdicts.{IsVerdict, OneVerdict, Out, Refused as refused_verdict, outcome, written_names}
+use Rattle.page_files.specs.Verdicts.{IsVerdict, OneVerdict, Out, Refused as refused_verdict, outcome, written_names}
 use Rattle.trappool_cli.specs.Answers.{AnswersAll, AnswersDone, AnswersSaid, status_with}
 use Rattle.trappool_cli.specs.Cases.{AcceptsPage, AsksPrefixes, IsCase, LinesEnd, MakesPage, read_line, read_lines, write_line, write_lines}
 use Rattle.trappool_cli.specs.declared.answering.LineStatus.{LineStatus}

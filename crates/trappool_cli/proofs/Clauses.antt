@@ -9,14 +9,14 @@ use Rattle.page_model.specs.declared.parts.PageParts.{PageParts}
 use Rattle.page_model.specs.Counts.{page_counts}
 use Rattle.page_model.specs.Page.{plates}
 use Rattle.page_model.specs.Tints.{trapped_planes}
-use Rattle.page_writing.specs.Writing.{FinishesAll, WritesAll}
-use Rattle.page_writing.proofs.Steps.{page_names}
+use Rattle.page_files.specs.Writing.{FinishesAll, WritesAll}
+use Rattle.page_files.proofs.Steps.{page_names}
 use Rattle.job_list.specs.Lines.{LineParts}
 use Rattle.trap_pool.specs.declared.outcome.Outcome.{Outcome}
 use Rattle.trap_pool.specs.declared.outcome.Outcome.TheVariants as outcomes
 use Rattle.trap_pool.specs.Pools.{target_of}
 use Rattle.trap_report.specs.Report.{report_of}
-use Rattle.verdicts.specs.Verdicts.{Targets, outcome, written_names}
+use Rattle.page_files.specs.Verdicts.{Targets, outcome, written_names}
 use Rattle.trap_pool.specs.Replies.{ReplyParts}
 use Rattle.trappool_cli.specs.Answers.{AllHaveOuts, AnswersAll, AnswersOne, AnswersSaid, status_with}
 use Rattle.trappool_cli.proofs.Outs.{made_outs}

@@ -5,11 +5,11 @@ use Rattle.outside.specs.Rack.{RackState}
 use Rattle.outside.specs.Tray.{TrayState}
 use Rattle.outside.proofs.Names.{asks_all}
 use Rattle.outside.proofs.Steps.{rose_once}
-use Rattle.page_gather.specs.Inputs.{Holds, one_page}
+use Rattle.page_files.specs.Inputs.{Holds, one_page}
 use Rattle.job_list.specs.Lines.{LineParts}
 use Rattle.job_list.specs.Lists.{IsBadLine, IsList, OneReading}
 use Rattle.trap_pool.specs.Replies.{ReplyParts}
-use Rattle.verdicts.specs.Verdicts.{OneVerdict}
+use Rattle.page_files.specs.Verdicts.{OneVerdict}
 use Rattle.trappool_cli.specs.Clauses.{Answered, AnswersEach, BeginsList, Completeness, IsAnswer, JudgesList}
 use Rattle.trappool_cli.specs.Answers.{AnswersAll}
 use Rattle.trappool_cli.specs.Endings.{Ends}

@@ -1,7 +1,7 @@
 -- A line whose page is done has a file for each of its plates.
 use Rattle.std.proofs.Common.{◌≡◌, ◌∙◌, ℕ, ◌+◌, List, [], ◌∷◌, length, Option, Ok, sym, subst}
 use Rattle.outside.specs.Tray.{TrayState}
-use Rattle.page_gather.specs.Gathering.{Gathers}
+use Rattle.page_files.specs.Gathering.{Gathers}
 use Rattle.page_model.specs.declared.parts.PageParts.{PageParts}
 use Rattle.job_list.specs.Lines.{LineParts}
 use Rattle.trap_pool.specs.Pools.{AnswersLine, InTurn, source_of}

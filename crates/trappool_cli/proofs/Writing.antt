@@ -6,7 +6,7 @@ use Rattle.page_model.specs.declared.parts.PageParts.{PageParts}
 use Rattle.page_model.specs.declared.parts.Plane.{Plane}
 use Rattle.page_model.specs.Counts.{page_counts}
 use Rattle.page_model.specs.Tints.{trapped_planes}
-use Rattle.page_writing.specs.Writing.{WritesPage}
+use Rattle.page_files.specs.Writing.{WritesPage}
 use Rattle.job_list.specs.Lines.{LineParts}
 use Rattle.page_tally.specs.declared.outcome.Trapped.{Trapped}
 use Rattle.trap_pool.specs.declared.outcome.Outcome.TheVariants as outcomes
@@ -15,7 +15,7 @@ use Rattle.trap_pool.specs.Replies.{IsReady, IsReply, IsReport, IsTrapOf, reply_
 use Rattle.refusals.specs.declared.refusal.Refusal.{Refusal}
 use Rattle.refusals.specs.declared.refusal.Refusal.TheVariants as refusals
 use Rattle.trap_report.specs.Report.{report_of}
-use Rattle.verdicts.specs.Verdicts.{written_names}
+use Rattle.page_files.specs.Verdicts.{written_names}
 use Rattle.trappool_cli.specs.Answers.{AnswersDone, AnswersSaid, WritesDone, WritesReply}
 use Rattle.trappool_cli.specs.declared.answering.LineStatus.{LineStatus}
 use Rattle.trappool_cli.specs.declared.answering.LineStatus.TheVariants as said

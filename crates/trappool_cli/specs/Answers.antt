@@ -5,7 +5,7 @@ use Rattle.outside.specs.Causes.{RoseOnce, AsksPrefix}
 use Rattle.outside.specs.Rack.{RackState, KeepsRack}
 use Rattle.page_model.specs.declared.parts.PageParts.{PageParts}
 use Rattle.page_model.specs.Page.{plates}
-use Rattle.page_writing.specs.Writing.{Breaks, WritesAll}
+use Rattle.page_files.specs.Writing.{Breaks, WritesAll}
 use Rattle.job_list.specs.Lines.{LineParts}
 use Rattle.trap_pool.specs.declared.outcome.Outcome.{Outcome}
 use Rattle.trap_pool.specs.declared.outcome.Outcome.TheVariants as outcomes
@@ -14,7 +14,7 @@ use Rattle.trap_pool.specs.Replies.{ReplyParts}
 use Rattle.refusals.specs.declared.refusal.Refusal.TheVariants as refusals
 use Rattle.refusals.specs.Statuses.{lines_refused, not_written}
 use Rattle.refusals.specs.Telling.{KeepsFiles}
-use Rattle.verdicts.specs.Verdicts.{Targets, outcome, written_names}
+use Rattle.page_files.specs.Verdicts.{Targets, outcome, written_names}
 use Rattle.trappool_cli.specs.declared.answering.LineStatus.{LineStatus}
 use Rattle.trappool_cli.specs.declared.answering.LineStatus.TheVariants as said
 use Rattle.trappool_cli.specs.Text.{job_line}

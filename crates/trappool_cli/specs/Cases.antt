@@ -3,16 +3,16 @@ use Rattle.std.specs.Prelude.{◌≡◌, ◌⊎◌, ℕ, ◌+◌, ◌<◌, ◌�
 use Rattle.outside.specs.Causes.{Rose, RoseOnce, AsksPrefix}
 use Rattle.outside.specs.Rack.{RackState, KeepsRack}
 use Rattle.outside.specs.Tray.{TrayState}
-use Rattle.page_gather.specs.Inputs.{Makes, one_page}
+use Rattle.page_files.specs.Inputs.{Makes, one_page}
 use Rattle.page_model.specs.declared.parts.PageParts.{PageParts}
-use Rattle.page_writing.specs.Writing.{Breaks, WritesAll}
+use Rattle.page_files.specs.Writing.{Breaks, WritesAll}
 use Rattle.job_list.specs.Lines.{LineParts}
 use Rattle.trap_pool.specs.Pools.{source_of, target_of}
 use Rattle.trap_pool.specs.Replies.{all_samples, most_in_all}
 use Rattle.refusals.specs.declared.refusal.Refusal.TheVariants as refusals
 use Rattle.refusals.specs.Statuses.{not_written}
-use Rattle.verdicts.specs.Verdicts.{IsVerdict, Out, Refused as refused_verdict, outcome}
-use Rattle.verdicts.specs.Verdicts.{written_names}
+use Rattle.page_files.specs.Verdicts.{IsVerdict, Out, Refused as refused_verdict, outcome}
+use Rattle.page_files.specs.Verdicts.{written_names}
 use Rattle.trappool_cli.specs.Answers.{TellsPart, TellsWhole, status_with}
 use Rattle.trappool_cli.specs.Text.{job_line}
 use Rattle.trappool_cli.specs.declared.answering.LineStatus.{LineStatus}

@@ -5,9 +5,9 @@ use Rattle.std.specs.Prelude.{◌++◌, length, map, Some, None, Ok}
 use Rattle.outside.specs.Causes.{Rose, RoseOnce, Asks}
 use Rattle.outside.specs.Rack.{RackState}
 use Rattle.outside.specs.Tray.{TrayState}
-use Rattle.page_gather.specs.Inputs.{Holds, one_page, read_files}
-use Rattle.page_writing.specs.Files.{Written}
-use Rattle.page_writing.specs.Writing.{FinishesAll}
+use Rattle.page_files.specs.Inputs.{Holds, one_page, read_files}
+use Rattle.page_files.specs.Files.{Written}
+use Rattle.page_files.specs.Writing.{FinishesAll}
 use Rattle.job_list.specs.Lines.{LineParts}
 use Rattle.job_list.specs.Lists.{IsBadLine, IsList}
 use Rattle.trap_pool.specs.Pools.{source_of, target_of}
@@ -20,7 +20,7 @@ use Rattle.refusals.specs.declared.refusal.Refusal.TheVariants as refusals
 use Rattle.trappool_cli.specs.Answers.{AnswersAll}
 use Rattle.trappool_cli.specs.Cases.{AsksPrefixes, LinesEnd, read_lines, write_lines}
 use Rattle.trappool_cli.specs.Reading.{MakesReplies, TakesList}
-use Rattle.verdicts.specs.Verdicts.{IsVerdict, Out, written_names}
+use Rattle.page_files.specs.Verdicts.{IsVerdict, Out, written_names}
 use Rattle.trappool_cli.specs.declared.answering.LineStatus.{LineStatus}
 use Rattle.trappool_cli.specs.Text.{bad_line, job_line, unread_line, usage_line}
 use Rattle.trappool_cli.specs.Words.{AskedWords, asked_of}

@@ -3,7 +3,7 @@ use Rattle.std.specs.Prelude.{◌≡◌, ◌⊎◌, ℕ, ◌+◌, ◌≤◌, IsT
 use Rattle.outside.specs.Causes.{RoseOnce, Asks}
 use Rattle.outside.specs.Reading.{TakesFew}
 use Rattle.outside.specs.Tray.{TrayState, KeepsTray}
-use Rattle.page_gather.specs.Inputs.{Holds}
+use Rattle.page_files.specs.Inputs.{Holds}
 use Rattle.job_list.specs.Lines.{LineParts}
 use Rattle.job_list.specs.Lists.{IsBadLine, IsList, longest_list, most_lines}
 use Rattle.job_list.specs.declared.reading.ListRefusal.{ListRefusal}

@@ -13,7 +13,7 @@ use job_list::line::{LineList, ListLine};
 use outside::rack::Rack;
 use outside::tray::Failed;
 use page_model::parts::{Name, PlaneList};
-use page_writing::writing::write_page;
+use page_files::writing::write_page;
 use refusals::refusal::Refusal;
 use refusals::statuses::{DONE, LINES_REFUSED, NOT_WRITTEN};
 use trap_pool::outcome::Outcome;

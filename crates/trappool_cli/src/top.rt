@@ -12,7 +12,7 @@ use std::alloc::Global;
 use std::sync::Wait;
 use std::thread::Threads;
 use trap_pool::TakeGate;
-use verdicts::laws::one_verdict;
+use page_files::laws::one_verdict;
 
 /// Traps the pages of a list of jobs, and returns the status that the program exits with.
 ///

@@ -1,10 +1,10 @@
 //! The program `traprun`: passes its words, the disk and standard output to the top call.
 #![tactic(auto)]
 
-use band_workers::OpenGate;
+use band_claims::OpenGate;
 use outside::disk_rack::DiskRack;
 use outside::disk_tray::DiskTray;
-use page_run::top::traprun_main;
+use traprun_cli::top::traprun_main;
 use refusals::words::words;
 use std::process::ExitCode;
 

@@ -6,12 +6,12 @@ mod words;
 mod worked;
 
 use self::failing::holds_prefix;
-use band_workers::OpenGate;
+use band_claims::OpenGate;
 use lists::list::List;
 use outside::mem_file::FileList;
 use outside::mem_rack::MemRack;
 use outside::mem_tray::MemTray;
-use page_run::top::traprun_main;
+use traprun_cli::top::traprun_main;
 use std::alloc::Global;
 use std::process::Abort;
 use std::thread::Threads;

@@ -6,16 +6,16 @@ use Rattle.outside.specs.Tray.{TrayState}
 use Rattle.outside.specs.Rack.{RackState, KeepsRack}
 use Rattle.outside.proofs.Names.{asks_all, asks_then}
 use Rattle.outside.proofs.Steps.{rose_before}
-use Rattle.page_gather.specs.Inputs.{name_at}
-use Rattle.page_gather.specs.Looks.{Refuses, StopsAt}
-use Rattle.page_gather.specs.Steps.{ReadsPlates, plates_sought}
-use Rattle.page_gather.proofs.LookLemmas.{refused_prefix, some_in_hand}
-use Rattle.page_gather.proofs.PlaneLemmas.{planes_back, plates_found}
-use Rattle.page_gather.proofs.PlateLemmas.{plate_count}
+use Rattle.page_files.specs.Inputs.{name_at}
+use Rattle.page_files.specs.Looks.{Refuses, StopsAt}
+use Rattle.page_files.specs.Steps.{ReadsPlates, plates_sought}
+use Rattle.page_files.proofs.LookLemmas.{refused_prefix, some_in_hand}
+use Rattle.page_files.proofs.PlaneLemmas.{planes_back, plates_found}
+use Rattle.page_files.proofs.PlateLemmas.{plate_count}
 use Rattle.page_model.specs.declared.parts.Plane.{Plane}
-use Rattle.page_writing.specs.Files.{plate_files}
-use Rattle.page_writing.specs.Writing.{FinishesAll}
-use Rattle.page_writing.proofs.Steps.{plates_length, plates_names}
+use Rattle.page_files.specs.Files.{plate_files}
+use Rattle.page_files.specs.Writing.{FinishesAll}
+use Rattle.page_files.proofs.Steps.{plates_length, plates_names}
 use Rattle.pgm_plates.specs.Laws.{PlaneTurnsBack}
 use Rattle.pgm_plates.specs.Planes.{plate_of}
 use Rattle.pgm_plates.specs.Plates.{IsPlateFile}

@@ -3,9 +3,9 @@ use Rattle.std.proofs.Common.{◌≡◌, ◌≢◌, ◌⊎◌, ℕ, ◌≤◌, L
 use Rattle.outside.specs.Causes.{Rose, RoseOnce, Asks, AsksPrefix}
 use Rattle.outside.specs.Tray.{TrayState}
 use Rattle.outside.specs.Rack.{RackState, KeepsRack}
-use Rattle.page_gather.specs.Inputs.{one_page}
-use Rattle.page_writing.proofs.Told.{breaks_then, line_after}
-use Rattle.page_writing.specs.Files.{Written}
+use Rattle.page_files.specs.Inputs.{one_page}
+use Rattle.page_files.proofs.Told.{breaks_then, line_after}
+use Rattle.page_files.specs.Files.{Written}
 use Rattle.trapset_cli.specs.declared.cause.TrapsetError.{TrapsetError}
 use Rattle.trapset_cli.specs.declared.cause.TrapsetError.TheVariants as causes
 use Rattle.trapset_cli.specs.Causes.{RefusesCause, cause_line, cause_status}
@@ -17,7 +17,7 @@ use Rattle.trapset_cli.proofs.OneVerdict.{one_cause, out_or_refused}
 use Rattle.trapset_cli.specs.Words.{ApplyWords, Command, Traps, Apply, command_of}
 use Rattle.refusals.specs.declared.refusal.Refusal.TheVariants as refusals
 use Rattle.refusals.specs.Telling.{KeepsFiles, TellsText, TellsAfterFault}
-use Rattle.verdicts.proofs.VerdictLemmas.{PlateLaws}
+use Rattle.page_files.proofs.VerdictLemmas.{PlateLaws}
 
 not_written_then : (command : Command) (t t' : TrayState) (a b c : RackState) (cause : TrapsetError) → KeepsRack a b → NotWritten command t t' a b cause → KeepsFiles b c → NotWritten command t t' a c cause
 not_written_then command t t' a b c cause keeps broke files = record {

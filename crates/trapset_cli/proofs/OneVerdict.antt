@@ -3,10 +3,10 @@ use Rattle.std.proofs.Common.{◌≡◌, ℕ, zero, suc, ◌+◌, ◌<◌, ◌�
 use Rattle.std.proofs.lemmas.Bool.{cases_lt}
 use Rattle.std.proofs.lemmas.List.{same_lists, get_or_default}
 use Rattle.std.proofs.lemmas.Option.{same_Some}
-use Rattle.page_gather.specs.Inputs.{AreRead, Holds, Makes, name_at, no_plate, one_page, plate_at}
+use Rattle.page_files.specs.Inputs.{AreRead, Holds, Makes, name_at, no_plate, one_page, plate_at}
 use Rattle.page_model.specs.declared.parts.PageParts.{PageParts}
 use Rattle.page_model.specs.declared.parts.Plane.{Plane}
-use Rattle.page_writing.specs.Files.{Written}
+use Rattle.page_files.specs.Files.{Written}
 use Rattle.pgm_plates.specs.declared.plate.Plate.{Plate as PlateRead}
 use Rattle.pgm_plates.specs.declared.plate.PlateFault.{PlateFault}
 use Rattle.pgm_plates.specs.Faults.{IsFault}
@@ -24,8 +24,8 @@ use Rattle.trap_set.specs.Lines.{BeginsSome, IsBadLine, lines_of}
 use Rattle.trap_set.specs.Runs.{Run}
 use Rattle.trap_set.specs.SetText.{SetHead, IsSetFile, page_line, set_lines, title_line}
 use Rattle.trap_set.proofs.SetLines.{lines_whole, one_head}
-use Rattle.verdicts.specs.Verdicts.{Verdict as PageVerdict, IsVerdict as IsPageVerdict, Refused as page_refused, Out as page_out, outcome}
-use Rattle.verdicts.proofs.VerdictLemmas.{PlateLaws, one_verdict}
+use Rattle.page_files.specs.Verdicts.{Verdict as PageVerdict, IsVerdict as IsPageVerdict, Refused as page_refused, Out as page_out, outcome}
+use Rattle.page_files.proofs.VerdictLemmas.{PlateLaws, one_verdict}
 
 -- the text of a set
 

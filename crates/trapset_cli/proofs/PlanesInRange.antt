@@ -8,8 +8,8 @@ use Rattle.page_model.specs.Conditions.{IsPage, IsPlane}
 use Rattle.page_model.specs.Page.{plates}
 use Rattle.page_model.specs.Planes.{no_plane, plane_at}
 use Rattle.page_model.specs.Tints.{trapped_plane, trapped_planes}
-use Rattle.page_gather.specs.Steps.{IsPlaneOfPage}
-use Rattle.plane_shapes.specs.Shapes.{AreOneShape}
+use Rattle.page_files.specs.Steps.{IsPlaneOfPage}
+use Rattle.page_model.specs.Shapes.{AreOneShape}
 use Rattle.trapset_cli.specs.Putting.{AreInRange, IsSmall}
 use Rattle.trap_set.specs.Applying.{IsBelow, KeepsPlane, KeepsPlanes}
 use Rattle.trap_set.specs.Runs.{ArePair}

@@ -4,14 +4,14 @@ use Rattle.outside.specs.Tray.{TrayState}
 use Rattle.outside.specs.Rack.{RackState, KeepsRack}
 use Rattle.outside.specs.Writing.{WritesFile}
 use Rattle.outside.proofs.Names.{asks_all, asks_none_of}
-use Rattle.page_gather.specs.Gathering.{Gathers, ReadsPage}
-use Rattle.page_gather.proofs.GatherLemmas.{gathered}
+use Rattle.page_files.specs.Gathering.{Gathers, ReadsPage}
+use Rattle.page_files.proofs.GatherLemmas.{gathered}
 use Rattle.page_model.specs.declared.parts.PageParts.{PageParts}
 use Rattle.page_model.specs.declared.parts.Plane.{Plane}
 use Rattle.page_model.specs.Conditions.{IsPage}
 use Rattle.page_model.specs.Tints.{trapped_planes}
-use Rattle.page_writing.specs.Writing.{BreaksAt, WritesAll}
-use Rattle.page_writing.proofs.Steps.{breaks_next, wrote_more, wrote_none}
+use Rattle.page_files.specs.Writing.{BreaksAt, WritesAll}
+use Rattle.page_files.proofs.Steps.{breaks_next, wrote_more, wrote_none}
 use Rattle.trapset_cli.specs.declared.cause.TrapsetError.{TrapsetError}
 use Rattle.trapset_cli.specs.declared.cause.TrapsetError.TheVariants as causes
 use Rattle.trapset_cli.specs.Commands.{sources_of}

@@ -4,8 +4,8 @@ use Rattle.std.specs.Prelude.{◌≡◌, ◌≢◌, ◌⊎◌, ℕ, ◌≤◌, I
 use Rattle.outside.specs.Causes.{Rose, Asks, AsksPrefix}
 use Rattle.outside.specs.Tray.{TrayState}
 use Rattle.outside.specs.Rack.{RackState}
-use Rattle.page_writing.specs.Files.{Written, put_all}
-use Rattle.page_writing.specs.Writing.{BreaksAt, FinishesAll}
+use Rattle.page_files.specs.Files.{Written, put_all}
+use Rattle.page_files.specs.Writing.{BreaksAt, FinishesAll}
 use Rattle.trapset_cli.specs.declared.cause.TrapsetError.{TrapsetError}
 use Rattle.trapset_cli.specs.declared.cause.TrapsetError.TheVariants.{NoCommand, BadLine, Differs}
 use Rattle.trapset_cli.specs.Causes.{cause_line, cause_status}

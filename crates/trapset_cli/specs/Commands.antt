@@ -1,6 +1,6 @@
 -- The files of a command, in the order in which they are read and written.
 use Rattle.std.specs.Prelude.{ℕ, List, [], ◌∷◌, ◌++◌, map}
-use Rattle.page_gather.specs.Inputs.{Sources, read_files}
+use Rattle.page_files.specs.Inputs.{Sources, read_files}
 use Rattle.plain_words.specs.Parts.{InputNames, CopyNames}
 use Rattle.plain_words.specs.Inputs.{names_of}
 use Rattle.trapset_cli.specs.Words.{TrapsWords, ApplyWords, Command, Traps, Apply, outputs_of}

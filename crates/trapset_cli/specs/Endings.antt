@@ -4,14 +4,14 @@ use Rattle.std.specs.Prelude.{Result, Ok, Err}
 use Rattle.outside.specs.Causes.{Rose, RoseOnce, Asks, AsksPrefix}
 use Rattle.outside.specs.Tray.{TrayState}
 use Rattle.outside.specs.Rack.{RackState, KeepsRack}
-use Rattle.page_gather.specs.Gathering.{BreaksReading, InHand, files_to}
-use Rattle.page_gather.specs.Inputs.{AreRead, name_at, one_page}
-use Rattle.page_gather.specs.Steps.{IsFaultless, PassesNoFault, PlateInHand}
+use Rattle.page_files.specs.Gathering.{BreaksReading, InHand, files_to}
+use Rattle.page_files.specs.Inputs.{AreRead, name_at, one_page}
+use Rattle.page_files.specs.Steps.{IsFaultless, PassesNoFault, PlateInHand}
 use Rattle.page_model.specs.declared.parts.PageParts.{PageParts}
 use Rattle.page_model.specs.declared.parts.Plane.{Plane}
 use Rattle.page_model.specs.Conditions.{IsPage, IsPlane}
-use Rattle.page_writing.specs.Files.{Written, plate_files}
-use Rattle.page_writing.specs.Writing.{FinishesAll, WritesAll, BreaksAt}
+use Rattle.page_files.specs.Files.{Written, plate_files}
+use Rattle.page_files.specs.Writing.{FinishesAll, WritesAll, BreaksAt}
 use Rattle.pgm_plates.specs.declared.plate.Plate.{Plate as PlateRead}
 use Rattle.trapset_cli.specs.declared.cause.TrapsetError.{TrapsetError}
 use Rattle.trapset_cli.specs.declared.cause.TrapsetError.TheVariants.{NoCommand, Page, SetUnread}

@@ -8,7 +8,7 @@ use Rattle.page_model.specs.declared.parts.PageParts.{PageParts}
 use Rattle.page_model.specs.declared.parts.Plane.{Plane}
 use Rattle.page_model.specs.Conditions.{IsPage, IsPlane}
 use Rattle.page_model.specs.Limits.{most_samples}
-use Rattle.page_writing.specs.Writing.{WritesAll, WritesPlates, BreaksAt}
+use Rattle.page_files.specs.Writing.{WritesAll, WritesPlates, BreaksAt}
 use Rattle.trapset_cli.specs.declared.cause.TrapsetError.{TrapsetError}
 use Rattle.trapset_cli.specs.declared.cause.TrapsetError.TheVariants.{Page, SetUnread, SetUnwritten}
 use Rattle.trapset_cli.specs.declared.cause.TrapsetError.TheVariants.{BadLine, Differs}

@@ -1,10 +1,10 @@
 -- What is to come of a command, by the bytes of its files. Nothing else is looked at.
 use Rattle.std.specs.Prelude.{◌≡◌, ℕ, ◌+◌, ◌<◌, List, [], ◌∷◌, length, map, Option, Ok}
-use Rattle.page_gather.specs.Inputs.{AreRead, Holds, Makes, name_at, one_page}
+use Rattle.page_files.specs.Inputs.{AreRead, Holds, Makes, name_at, one_page}
 use Rattle.page_model.specs.declared.parts.PageParts.{PageParts}
 use Rattle.page_model.specs.declared.parts.Plane.{Plane}
 use Rattle.page_model.specs.Tints.{trapped_planes}
-use Rattle.page_writing.specs.Files.{Written, plate_files}
+use Rattle.page_files.specs.Files.{Written, plate_files}
 use Rattle.pgm_plates.specs.declared.plate.Plate.{Plate as PlateRead}
 use Rattle.pgm_plates.specs.declared.plate.PlateFault.{PlateFault}
 use Rattle.pgm_plates.specs.Faults.{IsFault}
@@ -19,7 +19,7 @@ use Rattle.trap_set.specs.Applying.{Differ, Fits}
 use Rattle.trap_set.specs.Lines.{IsBadLine}
 use Rattle.trap_set.specs.Runs.{Run}
 use Rattle.trap_set.specs.SetText.{SetHead, IsSetFile, set_text}
-use Rattle.verdicts.specs.Verdicts.{Targets, IsVerdict as IsPageVerdict, Refused as page_refused}
+use Rattle.page_files.specs.Verdicts.{Targets, IsVerdict as IsPageVerdict, Refused as page_refused}
 
 -- what is to come
 pub data Verdict : Type 0 where

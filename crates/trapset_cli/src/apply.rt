@@ -12,7 +12,7 @@ use crate::planes::patched_planes;
 use outside::rack::Rack;
 use outside::tray::Tray;
 use page_model::parts::PlaneList;
-use page_writing::writing::write_plates;
+use page_files::writing::write_plates;
 use plain_words::files::copy_outputs;
 use refusals::refusal::Refusal;
 use std::alloc::Global;

@@ -9,7 +9,7 @@ ghost use Rattle.trap_set.specs.Applying.{IsFull};
 use crate::cause::TrapsetError;
 use crate::command::ApplyArgs;
 use outside::tray::Tray;
-use page_gather::plates::read_plates;
+use page_files::plates::read_plates;
 use page_model::parts::PlaneList;
 use pgm_plates::laws::plane_turns_back;
 use plain_words::files::copy_inputs;

@@ -5,9 +5,9 @@ use Rattle.std.proofs.lemmas.List.{take-append-drop}
 use Rattle.outside.specs.Causes.{Asks, AsksPrefix, Rose}
 use Rattle.outside.specs.Tray.{TrayState, KeepsTray}
 use Rattle.outside.proofs.Names.{asks_all, asks_before, asks_then}
-use Rattle.page_gather.specs.Inputs.{Sources, name_at}
-use Rattle.page_gather.specs.Steps.{TakesPlate}
-use Rattle.page_gather.proofs.LookLemmas.{last_asked}
+use Rattle.page_files.specs.Inputs.{Sources, name_at}
+use Rattle.page_files.specs.Steps.{TakesPlate}
+use Rattle.page_files.proofs.LookLemmas.{last_asked}
 use Rattle.pgm_plates.specs.declared.bounds.Bounds.TheVariants.{Sheet}
 use Rattle.pgm_plates.specs.declared.header.Header.{Header}
 use Rattle.pgm_plates.specs.declared.plate.PlateRefusal.TheVariants.{ReadFault}
@@ -16,13 +16,13 @@ use Rattle.plate_rows.specs.Laws.{NoChange}
 use Rattle.plate_rows.specs.Rereading.{HasChanged as PlateChanges, Interrupts}
 use Rattle.plate_rows.specs.Trays.{TakesFile, TakesFiles}
 use Rattle.plate_rows.proofs.StopLemmas.{went_rows}
-use Rattle.bare_sheets.specs.declared.budget.Budget.{Budget}
-use Rattle.sheet_gather.specs.declared.planning.PlannedSheet.{PlannedSheet}
-use Rattle.sheet_gather.specs.Gathering.{AsksAll, AsksTwice, FailsAgain, HasChanged, HasPlate, InHand, StopsAgain, TakesTrays, TakesTwice}
-use Rattle.sheet_gather.specs.Judging.{IsJudged, header_in}
+use Rattle.sheet_geometry.specs.declared.budget.Budget.{Budget}
+use Rattle.sheet_files.specs.declared.planning.PlannedSheet.{PlannedSheet}
+use Rattle.sheet_files.specs.Gathering.{AsksAll, AsksTwice, FailsAgain, HasChanged, HasPlate, InHand, StopsAgain, TakesTrays, TakesTwice}
+use Rattle.sheet_files.specs.Judging.{IsJudged, header_in}
 use Rattle.plate_rows.specs.Trays.{IsCalm, tray_at}
-use Rattle.sheet_gather.specs.Trays.{files_twice, tray_files}
-use Rattle.sheet_gather.proofs.TrayLemmas.{takes_before}
+use Rattle.sheet_files.specs.Trays.{files_twice, tray_files}
+use Rattle.sheet_files.proofs.TrayLemmas.{takes_before}
 
 -- the first so many of some names, with others after them
 asks_longer : (a b : Option (List (List ℕ))) (names more : List (List ℕ)) → AsksPrefix a b names → AsksPrefix a b (names ++ more)

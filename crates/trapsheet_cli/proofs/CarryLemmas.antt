@@ -2,12 +2,12 @@
 use Rattle.std.proofs.Common.{◌≡◌, ◌⊎◌, ℕ, ◌<◌, ◌≤◌, List, Bor, length, map, Some, None, Result, Ok, Err, inl, inr, refl, sym, ap, ◌∙◌, subst, arith}
 use Rattle.std.proofs.lemmas.Bool.{cases_lt}
 use Rattle.std.proofs.lemmas.List.{length-map}
-use Rattle.bare_sheets.specs.Bare.{bare_sheet}
-use Rattle.bare_sheets.specs.Begun.{BeginsWith}
-use Rattle.bare_sheets.proofs.BareLemmas.{plates_is}
+use Rattle.sheet_geometry.specs.Bare.{bare_sheet}
+use Rattle.sheet_geometry.specs.Begun.{BeginsWith}
+use Rattle.sheet_geometry.proofs.BareLemmas.{plates_is}
 use Rattle.outside.specs.Rack.{RackState}
 use Rattle.outside.specs.Tray.{TrayState}
-use Rattle.page_gather.specs.Inputs.{Sources, name_at}
+use Rattle.page_files.specs.Inputs.{Sources, name_at}
 use Rattle.page_model.specs.declared.parts.PageParts.{PageParts}
 use Rattle.page_model.specs.Page.{plates}
 use Rattle.page_model.specs.Tints.{trapped_planes}
@@ -23,33 +23,33 @@ use Rattle.plate_rows.specs.declared.stop.RereadError.{RereadError}
 use Rattle.plate_rows.specs.declared.stop.RereadError.TheVariants.{Changed as ChangedAgain, Unread}
 use Rattle.plate_rows.proofs.StopLemmas.{went_whole}
 use Rattle.refusals.specs.declared.refusal.Refusal.TheVariants.{Memory, Read, Write}
-use Rattle.bare_sheets.specs.declared.budget.Budget.{Budget}
-use Rattle.sheet_gather.specs.declared.planning.PlannedSheet.{PlannedSheet}
-use Rattle.sheet_gather.specs.declared.stop.TrapsheetError.{TrapsheetError}
-use Rattle.sheet_gather.specs.declared.stop.TrapsheetError.TheVariants.{Common}
-use Rattle.sheet_gather.specs.Gathering.{AsksAll, IsMadeSheet, TakesTrays, TakesTwice}
-use Rattle.sheet_gather.specs.Judging.{AnswersJudging, IsJudged, JudgesSheet}
-use Rattle.sheet_gather.specs.Rereading.{SheetIsReread, tints_read}
+use Rattle.sheet_geometry.specs.declared.budget.Budget.{Budget}
+use Rattle.sheet_files.specs.declared.planning.PlannedSheet.{PlannedSheet}
+use Rattle.sheet_files.specs.declared.stop.TrapsheetError.{TrapsheetError}
+use Rattle.sheet_files.specs.declared.stop.TrapsheetError.TheVariants.{Common}
+use Rattle.sheet_files.specs.Gathering.{AsksAll, IsMadeSheet, TakesTrays, TakesTwice}
+use Rattle.sheet_files.specs.Judging.{AnswersJudging, IsJudged, JudgesSheet}
+use Rattle.sheet_files.specs.Rereading.{SheetIsReread, tints_read}
 use Rattle.plate_rows.specs.Trays.{IsCalm, tray_at}
-use Rattle.sheet_loop.specs.Courses.{Course}
-use Rattle.sheet_loop.specs.Second.{IsDone, IsUnread, IsUnwritten, course_of, sheet_header}
-use Rattle.sheet_stream.specs.Reading.{HaveHeader}
-use Rattle.strip_tiles.specs.Whole.{IsCounted}
-use Rattle.tile_counts.specs.declared.counts.SheetCounts.{SheetCounts}
-use Rattle.verdicts.specs.Verdicts.{Targets}
+use Rattle.sheet_stream.specs.Courses.{Course}
+use Rattle.sheet_stream.specs.Second.{IsDone, IsUnread, IsUnwritten, course_of, sheet_header}
+use Rattle.sheet_stream.specs.RowReading.{HaveHeader}
+use Rattle.sheet_engine.specs.Whole.{IsCounted}
+use Rattle.sheet_engine.specs.declared.counts.SheetCounts.{SheetCounts}
+use Rattle.page_files.specs.Verdicts.{Targets}
 use Rattle.trapsheet_cli.specs.Endings.{AsksAllTwice, Carries, CarriesOut, PutsOut}
-use Rattle.sheet_output.specs.Reporting.{sheet_report}
+use Rattle.sheet_files.specs.Reporting.{sheet_report}
 use Rattle.trapsheet_cli.specs.Planned.{PutsPlanned, PutsWhole}
 use Rattle.plate_rows.specs.Racks.{rack_at}
-use Rattle.sheet_output.specs.Racks.{HoldParts, KeepsRacks, WritesFirst}
-use Rattle.sheet_output.specs.Streaming.{EndsReport, StreamsOut}
-use Rattle.sheet_gather.specs.Stops.{error_of}
+use Rattle.sheet_files.specs.Racks.{HoldParts, KeepsRacks, WritesFirst}
+use Rattle.sheet_files.specs.Streaming.{EndsReport, StreamsOut}
+use Rattle.sheet_files.specs.Stops.{error_of}
 use Rattle.trapsheet_cli.specs.Strips.{HasNoStrips}
 use Rattle.trapsheet_cli.specs.Files.{sources_of, targets_of}
-use Rattle.trapsheet_words.specs.Words.{SheetWords}
+use Rattle.trapsheet_cli.specs.Words.{SheetWords}
 use Rattle.trapsheet_cli.proofs.AgainLemmas.{fails_again, has_changed, takes_once, takes_to, takes_twice, twice}
 use Rattle.trapsheet_cli.proofs.PartLemmas.{breaks_keep, hold_parts, parts_keep, plate_breaks, writes_first}
-use Rattle.sheet_output.proofs.RackLemmas.{all_keeps, all_wrote, racks_same, report_broke}
+use Rattle.sheet_files.proofs.RackLemmas.{all_keeps, all_wrote, racks_same, report_broke}
 
 -- The sheet was not judged.
 module _ (order : SheetWords) (budget : Budget) (a b : List TrayState) (r : List RackState) where

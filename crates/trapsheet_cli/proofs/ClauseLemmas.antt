@@ -9,25 +9,25 @@ use Rattle.outside.specs.Rack.{RackState}
 use Rattle.outside.proofs.Steps.{rose_after}
 use Rattle.page_model.specs.declared.parts.PageParts.{PageParts}
 use Rattle.page_model.specs.Tints.{trapped_planes}
-use Rattle.page_writing.specs.Writing.{WritesAll}
+use Rattle.page_files.specs.Writing.{WritesAll}
 use Rattle.refusals.specs.declared.refusal.Refusal.TheVariants.{Usage, Job, NoDetails, Plate, Page, Read, Write, Memory}
 use Rattle.refusals.specs.Telling.{KeepsFiles, TellsText}
-use Rattle.sheet_gather.specs.Gathering.{AsksTwice, FailsAgain, FailsToRead, HasChanged, IsMadeSheet, IsOfInput, RefusesFiles, TakesTrays, tray_of}
-use Rattle.sheet_gather.specs.Inputs.{held_by}
-use Rattle.sheet_gather.specs.Stops.{line_of_stop, status_of_stop}
+use Rattle.sheet_files.specs.Gathering.{AsksTwice, FailsAgain, FailsToRead, HasChanged, IsMadeSheet, IsOfInput, RefusesFiles, TakesTrays, tray_of}
+use Rattle.sheet_files.specs.Inputs.{held_by}
+use Rattle.sheet_files.specs.Stops.{line_of_stop, status_of_stop}
 use Rattle.plate_rows.specs.Trays.{IsCalm, tray_at}
-use Rattle.sheet_gather.specs.Verdicts.{SheetVerdict, IsSheetVerdict, OneSheetVerdict}
-use Rattle.sheet_gather.specs.Verdicts.SheetVerdict.{Accepted, Refused}
-use Rattle.sheet_gather.specs.declared.stop.TrapsheetError.{TrapsheetError}
-use Rattle.sheet_gather.specs.declared.stop.TrapsheetError.TheVariants.{Changed, Common, OfSheet}
+use Rattle.sheet_files.specs.Verdicts.{SheetVerdict, IsSheetVerdict, OneSheetVerdict}
+use Rattle.sheet_files.specs.Verdicts.SheetVerdict.{Accepted, Refused}
+use Rattle.sheet_files.specs.declared.stop.TrapsheetError.{TrapsheetError}
+use Rattle.sheet_files.specs.declared.stop.TrapsheetError.TheVariants.{Changed, Common, OfSheet}
 use Rattle.trapsheet_cli.specs.Clauses.{Changes, Completeness, FailsAtFirst, FailsLater, FailsToWrite, FaultLine, LeavesFiles, Mean, NoRackRose, NoTrayRose, ReadFault, RefusedInput, RefusesInput, Reopened, StopsInParts, Success, Tell, Usage as UsageClause, WriteFault, Writes}
 use Rattle.trapsheet_cli.specs.Endings.{AsksAllTwice, Carries, Closes, EndsSheet, EndsWords, RefusesFirst, RefusesWords, sheet_files}
-use Rattle.sheet_output.specs.Reporting.{sheet_report}
+use Rattle.sheet_files.specs.Reporting.{sheet_report}
 use Rattle.plate_rows.specs.Racks.{rack_at}
-use Rattle.sheet_output.specs.Racks.{BreaksSheet, HoldParts, HoldsPart, KeepsRacks, plate_file, rack_names}
+use Rattle.sheet_files.specs.Racks.{BreaksSheet, HoldParts, HoldsPart, KeepsRacks, plate_file, rack_names}
 use Rattle.trapsheet_cli.specs.Strips.{IsWhole}
 use Rattle.trapsheet_cli.specs.Files.{sources_of, targets_of}
-use Rattle.trapsheet_words.specs.Words.{SheetWords, order_of}
+use Rattle.trapsheet_cli.specs.Words.{SheetWords, order_of}
 
 files_same : (a : RackState) → KeepsFiles a a
 files_same a = record { keeps = record { tells = refl; faults = omega arith }; asked = refl; finished = refl; is_open = refl; files = λ tells. refl }

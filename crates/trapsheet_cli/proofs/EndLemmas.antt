@@ -4,11 +4,11 @@ use Rattle.outside.specs.Rack.{RackState}
 use Rattle.page_model.specs.declared.parts.PageParts.{PageParts}
 use Rattle.page_model.specs.declared.parts.Plane.{Plane}
 use Rattle.page_model.specs.Tints.{trapped_planes}
-use Rattle.sheet_gather.specs.declared.stop.TrapsheetError.{TrapsheetError}
-use Rattle.verdicts.specs.Verdicts.{Targets}
+use Rattle.sheet_files.specs.declared.stop.TrapsheetError.{TrapsheetError}
+use Rattle.page_files.specs.Verdicts.{Targets}
 use Rattle.trapsheet_cli.specs.Endings.{PutsOut}
-use Rattle.sheet_output.specs.Reporting.{sheet_report}
-use Rattle.sheet_output.specs.Racks.{WritesSheet}
+use Rattle.sheet_files.specs.Reporting.{sheet_report}
+use Rattle.sheet_files.specs.Racks.{WritesSheet}
 
 puts_by : (target : Targets) (sheet : PageParts) (a b : List RackState) (result : Result (Unit {0}) TrapsheetError) → WritesSheet target (trapped_planes sheet) (sheet_report sheet) a b result → PutsOut target sheet a b result
 puts_by target sheet a b result (WritesSheet.wrote is wrote keeps) = PutsOut.wrote is wrote keeps

@@ -1,24 +1,24 @@
 -- A sheet that is held with all its rows.
 use Rattle.std.proofs.Common.{◌≡◌, ℕ, ◌*◌, ◌<◌, ◌≤◌, List, length, Ok, Err, refl, sym, ap, ◌∙◌, subst, arith}
-use Rattle.bare_sheets.specs.Bare.{IsBareSheet, bare_sheet}
-use Rattle.bare_sheets.proofs.BareLemmas.{law_of}
-use Rattle.bare_sheets.proofs.BegunLemmas.{some_sheet}
+use Rattle.sheet_geometry.specs.Bare.{IsBareSheet, bare_sheet}
+use Rattle.sheet_geometry.proofs.BareLemmas.{law_of}
+use Rattle.sheet_geometry.proofs.BegunLemmas.{some_sheet}
 use Rattle.outside.specs.Rack.{RackState}
 use Rattle.outside.specs.Tray.{TrayState}
 use Rattle.page_model.specs.declared.parts.PageParts.{PageParts}
 use Rattle.page_model.specs.Page.{height, plates, width}
 use Rattle.pgm_plates.specs.declared.header.Header.{Header}
 use Rattle.refusals.specs.declared.refusal.Refusal.TheVariants.{Memory}
-use Rattle.sheet_gather.specs.declared.stop.TrapsheetError.{TrapsheetError}
-use Rattle.sheet_gather.specs.declared.stop.TrapsheetError.TheVariants.{Common}
-use Rattle.sheet_loop.specs.Whole.{IsHeld}
-use Rattle.strip_steps.proofs.OnSheets.{may_begin}
-use Rattle.sheet_stream.specs.Reading.{tints_for}
-use Rattle.sheet_windows.specs.Sheets.{IsSheet}
-use Rattle.verdicts.specs.Verdicts.{Targets}
-use Rattle.sheet_output.specs.Holding.{HoldsAll}
+use Rattle.sheet_files.specs.declared.stop.TrapsheetError.{TrapsheetError}
+use Rattle.sheet_files.specs.declared.stop.TrapsheetError.TheVariants.{Common}
+use Rattle.sheet_stream.specs.Whole.{IsHeld}
+use Rattle.sheet_stream.proofs.OnSheets.{may_begin}
+use Rattle.sheet_stream.specs.RowReading.{tints_for}
+use Rattle.sheet_geometry.specs.Sheets.{IsSheet}
+use Rattle.page_files.specs.Verdicts.{Targets}
+use Rattle.sheet_files.specs.Holding.{HoldsAll}
 use Rattle.trapsheet_cli.specs.Planned.{PutsWhole}
-use Rattle.sheet_gather.specs.Stops.{error_of}
+use Rattle.sheet_files.specs.Stops.{error_of}
 
 pub held_in : (inputs : List (List ℕ)) (bare parts : PageParts) (b c : List TrayState) → HoldsAll inputs bare b c (Ok parts) → IsHeld inputs bare parts b c
 held_in inputs bare parts b c (HoldsAll.held sheet is held) =

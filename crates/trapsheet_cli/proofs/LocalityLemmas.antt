@@ -9,19 +9,19 @@ use Rattle.page_model.specs.Faults.{difference, too_wide}
 use Rattle.page_model.specs.Page.{plates}
 use Rattle.lists.specs.Words.{first_some}
 use Rattle.page_model.proofs.FaultLemmas.{agrees_from}
-use Rattle.page_gather.specs.Inputs.{plate_at}
-use Rattle.page_gather.specs.Assembly.{assembled, without_details}
+use Rattle.page_files.specs.Inputs.{plate_at}
+use Rattle.page_files.specs.Assembly.{assembled, without_details}
 use Rattle.pgm_plates.specs.declared.bounds.Bounds.TheVariants.{Sheet}
 use Rattle.pgm_plates.specs.declared.plate.Plate.{Plate as PlateRead}
 use Rattle.pgm_plates.specs.Planes.{plane_of}
-use Rattle.bare_sheets.specs.declared.refusal.SheetRefusal.{SheetRefusal}
-use Rattle.bare_sheets.specs.declared.refusal.SheetRefusal.TheVariants.{Fault}
-use Rattle.bare_sheets.specs.Refusals.{large_fault, parts_fault, sheet_refusal}
-use Rattle.sheet_gather.specs.Inputs.{AreSpelled, HeldBytes, SheetInputs, detailed, judged, sheet_of}
-use Rattle.sheet_gather.specs.SheetFiles.{IsSheetPlate}
+use Rattle.sheet_geometry.specs.declared.refusal.SheetRefusal.{SheetRefusal}
+use Rattle.sheet_geometry.specs.declared.refusal.SheetRefusal.TheVariants.{Fault}
+use Rattle.sheet_geometry.specs.Refusals.{large_fault, parts_fault, sheet_refusal}
+use Rattle.sheet_files.specs.Inputs.{AreSpelled, HeldBytes, SheetInputs, detailed, judged, sheet_of}
+use Rattle.sheet_files.specs.SheetFiles.{IsSheetPlate}
 use Rattle.lists.proofs.FirstSome.{both_none, each_none}
-use Rattle.verdicts.specs.Locality.{ChangesNearEdges}
-use Rattle.verdicts.proofs.LocalityLemmas.{changes_near}
+use Rattle.page_files.specs.Locality.{ChangesNearEdges}
+use Rattle.page_files.proofs.LocalityLemmas.{changes_near}
 
 no_fault : (o : Option PageFault) → option_map Fault o ≡ None → o ≡ None
 no_fault None none = refl

@@ -1,33 +1,33 @@
 -- Plates that were written by rows, as the files of a sheet: whole, in part, or broken off.
 use Rattle.std.proofs.Common.{◌≡◌, ◌≢◌, ◌⊎◌, ℕ, zero, suc, ◌<◌, IsTrue, List, [], ◌∷◌, length, take, Option, Some, None, Ok, Err, inl, inr, refl, sym, ap, ◌∙◌, subst, arith}
 use Rattle.std.proofs.lemmas.Bool.{cases_eq, cases_lt}
-use Rattle.bare_sheets.specs.Bare.{bare_sheet}
-use Rattle.bare_sheets.proofs.BareLemmas.{height_is, maxval_is, plates_is, width_is}
+use Rattle.sheet_geometry.specs.Bare.{bare_sheet}
+use Rattle.sheet_geometry.proofs.BareLemmas.{height_is, maxval_is, plates_is, width_is}
 use Rattle.lists.proofs.ListBelow.{list_below-at}
 use Rattle.outside.specs.Rack.{RackState, put}
 use Rattle.outside.specs.Tray.{TrayState}
 use Rattle.outside.specs.Writing.{WritesFile}
 use Rattle.outside.specs.declared.tray.Failed.{Failed}
 use Rattle.outside.proofs.Names.{asks_before}
-use Rattle.page_gather.specs.Inputs.{name_at}
+use Rattle.page_files.specs.Inputs.{name_at}
 use Rattle.page_model.specs.declared.parts.PageParts.{PageParts}
 use Rattle.page_model.specs.declared.parts.Plane.{Plane}
 use Rattle.page_model.specs.Page.{plates}
 use Rattle.page_model.specs.Planes.{no_plane, plane_at}
 use Rattle.page_model.specs.Tints.{new_tints, trapped_plane, trapped_planes}
-use Rattle.page_writing.specs.Format.{encoded}
-use Rattle.page_writing.specs.Writing.{BreaksAt, WritesAll}
-use Rattle.page_writing.proofs.Steps.{breaks_next, wrote_none}
+use Rattle.page_files.specs.Format.{encoded}
+use Rattle.page_files.specs.Writing.{BreaksAt, WritesAll}
+use Rattle.page_files.proofs.Steps.{breaks_next, wrote_none}
 use Rattle.pgm_plates.specs.declared.header.Header.{Header}
 use Rattle.plate_rows.specs.Images.{AreWritten}
-use Rattle.sheet_loop.specs.Courses.{Course}
-use Rattle.sheet_loop.specs.Second.{MayStand, PartsStand, PlateBreaks, course_of, plate_bytes, sheet_header}
+use Rattle.sheet_stream.specs.Courses.{Course}
+use Rattle.sheet_stream.specs.Second.{MayStand, PartsStand, PlateBreaks, course_of, plate_bytes, sheet_header}
 use Rattle.sheet_stream.specs.Writing.{StandsInPart}
-use Rattle.verdicts.specs.Verdicts.{Targets}
-use Rattle.sheet_output.specs.Reporting.{sheet_report}
+use Rattle.page_files.specs.Verdicts.{Targets}
+use Rattle.sheet_files.specs.Reporting.{sheet_report}
 use Rattle.plate_rows.specs.Racks.{rack_at}
-use Rattle.sheet_output.specs.Racks.{BreaksSheet, HoldParts, HoldsPart, KeepsRacks, WritesFirst, plate_file, rack_files, rack_names, targets}
-use Rattle.sheet_output.proofs.RackLemmas.{RackKept, keeps_same, kept_file, kept_is, wrote_one}
+use Rattle.sheet_files.specs.Racks.{BreaksSheet, HoldParts, HoldsPart, KeepsRacks, WritesFirst, plate_file, rack_files, rack_names, targets}
+use Rattle.sheet_files.proofs.RackLemmas.{RackKept, keeps_same, kept_file, kept_is, wrote_one}
 
 header_is : (bare sheet : PageParts) → bare_sheet sheet ≡ bare → sheet_header bare ≡ sheet_header sheet
 header_is bare sheet same =

@@ -1,22 +1,22 @@
 -- A sheet that was judged, by how it is planned.
 use Rattle.std.proofs.Common.{◌≡◌, ◌*◌, ◌<◌, ◌^◌, false, nat_lt, ◌||◌, inl, inr, sym, subst, arith}
 use Rattle.std.proofs.lemmas.Bool.{ltb-false, or_parts}
-use Rattle.bare_sheets.specs.Bare.{bare_sheet}
-use Rattle.bare_sheets.specs.Planned.{IsPlan}
-use Rattle.bare_sheets.specs.Refusals.{is_large}
-use Rattle.bare_sheets.proofs.BareLemmas.{cuttable_is, law_of}
-use Rattle.bare_sheets.specs.declared.plan.Plan.{Plan}
-use Rattle.bare_sheets.specs.declared.plan.Plan.TheVariants.{Page, Windows}
-use Rattle.bare_sheets.specs.declared.plan.Rulers.{Rulers}
+use Rattle.sheet_geometry.specs.Bare.{bare_sheet}
+use Rattle.sheet_geometry.specs.Planned.{IsPlan}
+use Rattle.sheet_geometry.specs.Refusals.{is_large}
+use Rattle.sheet_geometry.proofs.BareLemmas.{cuttable_is, law_of}
+use Rattle.sheet_geometry.specs.declared.plan.Plan.{Plan}
+use Rattle.sheet_geometry.specs.declared.plan.Plan.TheVariants.{Page, Windows}
+use Rattle.sheet_geometry.specs.declared.plan.Rulers.{Rulers}
 use Rattle.page_model.specs.declared.parts.PageParts.{PageParts}
 use Rattle.page_model.specs.Conditions.{IsPage}
 use Rattle.page_model.specs.Limits.{most_samples, most_side}
 use Rattle.page_model.specs.Page.{height, plates, width}
-use Rattle.bare_sheets.specs.declared.budget.Budget.{Budget}
-use Rattle.sheet_windows.specs.Sheets.{IsSheet}
-use Rattle.sheet_windows.proofs.Pages.{sheet_is_page}
-use Rattle.sheet_output.specs.Holding.{CanHold}
-use Rattle.sheet_output.specs.Trapping.{CanCut}
+use Rattle.sheet_geometry.specs.declared.budget.Budget.{Budget}
+use Rattle.sheet_geometry.specs.Sheets.{IsSheet}
+use Rattle.sheet_geometry.proofs.Pages.{sheet_is_page}
+use Rattle.sheet_files.specs.Holding.{CanHold}
+use Rattle.sheet_files.specs.Trapping.{CanCut}
 use Rattle.trapsheet_cli.specs.Strips.{HasNoStrips}
 
 -- A sheet that is planned otherwise has no strips of one height.

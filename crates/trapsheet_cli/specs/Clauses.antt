@@ -8,31 +8,31 @@ use Rattle.outside.specs.Rack.{RackState}
 use Rattle.job_reader.specs.declared.job.Job.{Job}
 use Rattle.page_model.specs.declared.parts.PageParts.{PageParts}
 use Rattle.page_model.specs.Tints.{trapped_planes}
-use Rattle.page_writing.specs.Writing.{WritesAll}
+use Rattle.page_files.specs.Writing.{WritesAll}
 use Rattle.pgm_plates.specs.declared.plate.Plate.{Plate as PlateRead}
 use Rattle.refusals.specs.declared.refusal.Refusal.TheVariants.{Memory, Read, Write}
 use Rattle.refusals.specs.Refusals.{line_of}
 use Rattle.refusals.specs.Statuses.{done, usage, job_refused, page_refused, not_read}
 use Rattle.refusals.specs.Statuses.{not_written, out_of_memory}
 use Rattle.refusals.specs.Telling.{KeepsFiles, TellsText}
-use Rattle.sheet_gather.specs.Gathering.{AsksTwice, FailsAgain, FailsToRead, HasChanged}
-use Rattle.sheet_gather.specs.Gathering.{IsMadeSheet, RefusesFiles, TakesTrays, TakesTwice}
-use Rattle.sheet_gather.specs.Inputs.{SheetInputs, held_by, sheet_of}
-use Rattle.sheet_gather.specs.Stops.{line_of_stop, status_of_stop}
+use Rattle.sheet_files.specs.Gathering.{AsksTwice, FailsAgain, FailsToRead, HasChanged}
+use Rattle.sheet_files.specs.Gathering.{IsMadeSheet, RefusesFiles, TakesTrays, TakesTwice}
+use Rattle.sheet_files.specs.Inputs.{SheetInputs, held_by, sheet_of}
+use Rattle.sheet_files.specs.Stops.{line_of_stop, status_of_stop}
 use Rattle.plate_rows.specs.Trays.{IsCalm, tray_at}
-use Rattle.sheet_gather.specs.Trays.{AllTell}
-use Rattle.sheet_gather.specs.Verdicts.{IsSheetVerdict, Accepted, Refused}
-use Rattle.sheet_gather.specs.declared.stop.TrapsheetError.{TrapsheetError}
-use Rattle.sheet_gather.specs.declared.stop.TrapsheetError.TheVariants.{Changed, Common}
+use Rattle.sheet_files.specs.Trays.{AllTell}
+use Rattle.sheet_files.specs.Verdicts.{IsSheetVerdict, Accepted, Refused}
+use Rattle.sheet_files.specs.declared.stop.TrapsheetError.{TrapsheetError}
+use Rattle.sheet_files.specs.declared.stop.TrapsheetError.TheVariants.{Changed, Common}
 use Rattle.trapsheet_cli.specs.Endings.{AsksAllTwice, sheet_files}
-use Rattle.sheet_output.specs.Reporting.{sheet_report}
-use Rattle.verdicts.specs.Locality.{ChangesNearEdges}
+use Rattle.sheet_files.specs.Reporting.{sheet_report}
+use Rattle.page_files.specs.Locality.{ChangesNearEdges}
 use Rattle.plate_rows.specs.Racks.{rack_at}
-use Rattle.sheet_output.specs.Racks.{BreaksSheet, HoldParts, KeepsRacks, rack_names}
+use Rattle.sheet_files.specs.Racks.{BreaksSheet, HoldParts, KeepsRacks, rack_names}
 use Rattle.trapsheet_cli.specs.Strips.{IsWhole}
 use Rattle.trapsheet_cli.specs.Text.{usage_line}
 use Rattle.trapsheet_cli.specs.Files.{sources_of, targets_of}
-use Rattle.trapsheet_words.specs.Words.{SheetWords, order_of}
+use Rattle.trapsheet_cli.specs.Words.{SheetWords, order_of}
 
 -- The words mean this sheet.
 abbrev pub Mean : List (List ℕ) → SheetWords → Type 0

@@ -3,28 +3,28 @@ use Rattle.std.specs.Prelude.{◌≡◌, ◌≢◌, ◌⊎◌, ℕ, ◌<◌, ◌
 use Rattle.std.specs.Prelude.{Ok, Err}
 use Rattle.outside.specs.Tray.{TrayState}
 use Rattle.outside.specs.Rack.{RackState}
-use Rattle.page_gather.specs.Inputs.{Sources}
+use Rattle.page_files.specs.Inputs.{Sources}
 use Rattle.page_model.specs.Tints.{trapped_planes}
 use Rattle.page_model.specs.declared.parts.PageParts.{PageParts}
-use Rattle.page_writing.specs.Files.{Written}
-use Rattle.page_writing.specs.Writing.{WritesAll}
+use Rattle.page_files.specs.Files.{Written}
+use Rattle.page_files.specs.Writing.{WritesAll}
 use Rattle.refusals.specs.declared.refusal.Refusal.TheVariants.{Memory, Read, Write}
 use Rattle.refusals.specs.Statuses.{done, usage}
 use Rattle.refusals.specs.Telling.{KeepsFiles, TellsText}
-use Rattle.sheet_gather.specs.Gathering.{AsksTwice, FailsAgain, FailsToRead, HasChanged}
-use Rattle.sheet_gather.specs.Gathering.{IsMadeSheet, RefusesFiles, TakesTrays, TakesTwice}
-use Rattle.sheet_gather.specs.Stops.{RefusesSheet}
+use Rattle.sheet_files.specs.Gathering.{AsksTwice, FailsAgain, FailsToRead, HasChanged}
+use Rattle.sheet_files.specs.Gathering.{IsMadeSheet, RefusesFiles, TakesTrays, TakesTwice}
+use Rattle.sheet_files.specs.Stops.{RefusesSheet}
 use Rattle.plate_rows.specs.Trays.{IsCalm}
-use Rattle.sheet_gather.specs.declared.stop.TrapsheetError.{TrapsheetError}
-use Rattle.sheet_gather.specs.declared.stop.TrapsheetError.TheVariants.{Changed, Common}
+use Rattle.sheet_files.specs.declared.stop.TrapsheetError.{TrapsheetError}
+use Rattle.sheet_files.specs.declared.stop.TrapsheetError.TheVariants.{Changed, Common}
 use Rattle.plate_rows.specs.Racks.{rack_at}
-use Rattle.sheet_output.specs.Reporting.{sheet_report}
-use Rattle.sheet_output.specs.Racks.{BreaksSheet, HoldParts, KeepsRacks, rack_files}
+use Rattle.sheet_files.specs.Reporting.{sheet_report}
+use Rattle.sheet_files.specs.Racks.{BreaksSheet, HoldParts, KeepsRacks, rack_files}
 use Rattle.trapsheet_cli.specs.Strips.{IsWhole}
 use Rattle.trapsheet_cli.specs.Text.{usage_line}
 use Rattle.trapsheet_cli.specs.Files.{sources_of, targets_of}
-use Rattle.trapsheet_words.specs.Words.{SheetWords, order_of}
-use Rattle.verdicts.specs.Verdicts.{Targets}
+use Rattle.trapsheet_cli.specs.Words.{SheetWords, order_of}
+use Rattle.page_files.specs.Verdicts.{Targets}
 
 -- the files that rack k writes of a sheet, in their order: its plate after trapping, and by the
 -- first rack the report

@@ -1,8 +1,8 @@
 -- The files that the words of a sheet name.
-use Rattle.page_gather.specs.Inputs.{Sources}
+use Rattle.page_files.specs.Inputs.{Sources}
 use Rattle.plain_words.specs.Plates.{inputs_of, names_of, outputs_of}
-use Rattle.trapsheet_words.specs.Words.{SheetWords}
-use Rattle.verdicts.specs.Verdicts.{Targets}
+use Rattle.trapsheet_cli.specs.Words.{SheetWords}
+use Rattle.page_files.specs.Verdicts.{Targets}
 
 -- the files that are read, with the plates' names
 abbrev pub sources_of : SheetWords → Sources

@@ -7,15 +7,15 @@ use Rattle.page_model.specs.Page.{plates}
 use Rattle.plate_rows.specs.Rereading.{StopsReading}
 use Rattle.plate_rows.specs.declared.stop.RereadError.{RereadError}
 use Rattle.refusals.specs.declared.refusal.Refusal.TheVariants.{Memory}
-use Rattle.sheet_gather.specs.declared.stop.TrapsheetError.{TrapsheetError}
-use Rattle.sheet_gather.specs.declared.stop.TrapsheetError.TheVariants.{Common}
-use Rattle.sheet_loop.specs.Second.{course_of, sheet_header}
-use Rattle.sheet_loop.specs.Whole.{IsHeld}
+use Rattle.sheet_files.specs.declared.stop.TrapsheetError.{TrapsheetError}
+use Rattle.sheet_files.specs.declared.stop.TrapsheetError.TheVariants.{Common}
+use Rattle.sheet_stream.specs.Second.{course_of, sheet_header}
+use Rattle.sheet_stream.specs.Whole.{IsHeld}
 use Rattle.trapsheet_cli.specs.Endings.{PutsOut}
-use Rattle.sheet_output.specs.Streaming.{StreamsOut}
-use Rattle.sheet_gather.specs.Stops.{error_of}
+use Rattle.sheet_files.specs.Streaming.{StreamsOut}
+use Rattle.sheet_files.specs.Stops.{error_of}
 use Rattle.trapsheet_cli.specs.Strips.{HasNoStrips}
-use Rattle.verdicts.specs.Verdicts.{Targets}
+use Rattle.page_files.specs.Verdicts.{Targets}
 
 -- All rows are read once more and held, and the sheet is put out; or the reading stopped, or there
 -- was no memory for it, and no file was begun.

@@ -1,16 +1,16 @@
 -- Sheets of which no strips of one height can be cut.
 use Rattle.std.specs.Prelude.{◌⊎◌, ◌*◌, ◌<◌, IsSome, List}
-use Rattle.bare_sheets.specs.Bare.{bare_sheet}
-use Rattle.bare_sheets.specs.Planned.{IsStepOf, even_room, room}
-use Rattle.bare_sheets.specs.declared.plan.Rulers.{Rulers}
+use Rattle.sheet_geometry.specs.Bare.{bare_sheet}
+use Rattle.sheet_geometry.specs.Planned.{IsStepOf, even_room, room}
+use Rattle.sheet_geometry.specs.declared.plan.Rulers.{Rulers}
 use Rattle.outside.specs.Tray.{TrayState}
-use Rattle.page_gather.specs.Inputs.{Sources}
+use Rattle.page_files.specs.Inputs.{Sources}
 use Rattle.page_model.specs.declared.parts.PageParts.{PageParts}
 use Rattle.page_model.specs.Limits.{most_samples}
 use Rattle.page_model.specs.Page.{plates}
-use Rattle.bare_sheets.specs.Refusals.{cut_fault}
-use Rattle.sheet_gather.specs.Gathering.{IsMadeSheet}
-use Rattle.sheet_windows.specs.Plans.{AreRulers}
+use Rattle.sheet_geometry.specs.Refusals.{cut_fault}
+use Rattle.sheet_files.specs.Gathering.{IsMadeSheet}
+use Rattle.sheet_geometry.specs.Plans.{AreRulers}
 
 -- By rulers of this sheet, with its own halo and step, the least window of a strip has more samples
 -- than a page.

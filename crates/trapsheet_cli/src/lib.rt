@@ -3,3 +3,4 @@
 
 mod run;
 pub mod top;
+pub mod words;

@@ -4,17 +4,17 @@ ghost use Rattle.trapsheet_cli.specs.Endings.{EndsWords, RefusesWords, TellsUsag
 ghost use Rattle.page_model.specs.Limits.{most_plates};
 
 use crate::run::run_order;
-use bare_sheets::budget::Budget;
+use sheet_geometry::budget::Budget;
 use outside::rack::Rack;
 use outside::tray::Tray;
 use refusals::line::Line;
 use refusals::statuses::USAGE;
 use refusals::telling::tell_line;
-use sheet_gather::laws::one_sheet_verdict;
-use sheet_output::windows::WINDOW;
+use sheet_files::laws::one_sheet_verdict;
+use sheet_files::windows::WINDOW;
 use std::alloc::Global;
 use std::thread::Threads;
-use trapsheet_words::words::read_words;
+use crate::words::read_words;
 
 /// Traps a sheet of any size, and returns the status that the program exits with.
 ///

@@ -3,7 +3,7 @@ mod failing;
 mod words;
 mod worked;
 
-use bare_sheets::budget::Budget;
+use sheet_geometry::budget::Budget;
 use lists::list::List;
 use lists::names::OutOfMemory;
 use outside::mem_file::FileList;

@@ -1,7 +1,7 @@
 use plain_words::parts::{PlateWord, plate_parts};
 use std::alloc::{AllocError, Global};
 use std::test::Fail;
-use trap_words::command::{Command, PageArgs, read_words};
+use trap_cli::command::{Command, PageArgs, read_words};
 
 // Words that are no command, with single spaces between them: two spaces stand round an empty word.
 const REFUSED: &[&str] = &[

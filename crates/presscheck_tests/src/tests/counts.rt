@@ -1,7 +1,7 @@
 ghost use Rattle.std.specs.Prelude.{◌≡◌, ◌+◌, ◌*◌, ◌<◌, ◌≤◌, ℕ, List, length, IfOk, All};
 ghost use Rattle.page_model.specs.declared.parts.Plane.{Plane};
 ghost use Rattle.page_model.specs.Conditions.{IsPlane};
-ghost use Rattle.plane_shapes.specs.Shapes.{AreOneShape, wide, tall};
+ghost use Rattle.page_model.specs.Shapes.{AreOneShape, wide, tall};
 ghost use Rattle.page_model.specs.Limits.{most_plates};
 
 use super::judge;

@@ -4,7 +4,7 @@ use lists::memory::push;
 use lists::names::{Name, NameList, copy_name};
 use outside::mem_file::FileList;
 use outside::mem_tray::MemTray;
-use page_gather::gather::gather;
+use page_files::gather::gather;
 use page_model::page::PageFault;
 use pgm_plates::plate::PlateFault;
 use ps_tokens::faults::{FaultKind, JobFault};

@@ -1,5 +1,5 @@
 use super::{Look, TWO_PLATES, file_of, looks, put, rack_of, tray_of, words_of};
-use band_workers::OpenGate;
+use band_claims::OpenGate;
 use lists::list::List;
 use outside::endless_tray::EndlessTray;
 use outside::mem_file::FileList;

@@ -8,7 +8,7 @@ use lists::list::List;
 use lists::memory::push;
 use outside::mem_rack::MemRack;
 use page_model::parts::{OutOfMemory, Plane, PlaneList};
-use page_writing::writing::write_page;
+use page_files::writing::write_page;
 use refusals::refusal::Refusal;
 use std::alloc::Global;
 use std::process::Abort;

@@ -1,7 +1,7 @@
 ghost use Rattle.std.specs.Prelude.{◌≡◌};
 
 use super::judge;
-use line_queue::{LineWork, Room, open_queue, push_line, push_lines, rooms_of, serve_all};
+use trap_pool::{LineWork, Room, open_queue, push_line, push_lines, rooms_of, serve_all};
 use std::alloc::Global;
 use std::process::Abort;
 use std::sync::Wait;

@@ -8,7 +8,7 @@ use outside::tray::Tray;
 use page_model::parts::Plane;
 use pgm_plates::plate::PlateFault;
 use pgm_plates::rows::{Header, OpenPlate};
-use plate_judging::sharing::judge_plates;
+use plate_rows::sharing::judge_plates;
 use plate_rows::rereading::{NextRows, begin_plates, end_plates, read_next};
 use plate_rows::stop::RereadError;
 use refusals::refusal::Refusal;

@@ -1,7 +1,7 @@
 // Random pages, cut into windows of a few samples: whatever the cut, the files are those of the page in one window.
 
 use super::{NARROW, Pieces, WIDE, case_of, run};
-use bare_sheets::budget::Budget;
+use sheet_geometry::budget::Budget;
 use outside::mem_rack::MemRack;
 use std::alloc::{AllocError, Global};
 use std::process::Abort;

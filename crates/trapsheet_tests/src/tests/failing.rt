@@ -2,7 +2,7 @@ use super::{
     BOTH_CYAN_DOWN, BOTH_MAGENTA_DOWN, CYAN_DOWN, Case, DOWN_REPORT, Fault, MAGENTA_DOWN, NARROW,
     Pieces, WIDE, case_of, run,
 };
-use bare_sheets::budget::Budget;
+use sheet_geometry::budget::Budget;
 use outside::mem_rack::MemRack;
 use std::alloc::{AllocError, Global};
 use std::process::Abort;

@@ -2,7 +2,7 @@ use super::{
     BOTH_CYAN_DOWN, BOTH_MAGENTA_DOWN, CYAN_DOWN, DOWN_REPORT, MAGENTA_DOWN, NARROW, Pieces, WIDE,
     Wanted, case_of, ends,
 };
-use bare_sheets::budget::Budget;
+use sheet_geometry::budget::Budget;
 use std::test::Fail;
 use test_files::{
     CYAN, DISABLED, INKS, MAGENTA, TRAPPED_CYAN, TRAPPED_MAGENTA, TRAPPED_REPORT, UNSLID_CYAN,

@@ -1,7 +1,7 @@
 -- are_zero: whether all values are 0.
 use Rattle.std.proofs.Common.{◌≡◌, ℕ, ◌+◌, ◌<◌, Bool, true, false, ◌&&◌, List, slice_index, nat_eq, refl, sym, ap, ◌∙◌, inl, inr, arith}
 use Rattle.std.proofs.lemmas.Bool.{cases_eq, eqb-true, false≢true}
-use Rattle.row_cells.proofs.Numbers.{number_read}
+use Rattle.band_core.proofs.Numbers.{number_read}
 use Rattle.band_claims.proofs.putting.are_zero.Goals as goal
 
 both : (a b : Bool) → (a && b) ≡ true → (a ≡ true) × (b ≡ true)

@@ -1,6 +1,6 @@
 -- What `cut_of` has to show.
 use Rattle.std.proofs.Common.{ℕ, ◌*◌, ap, ◌∙◌, arith}
-use Rattle.row_cells.specs.Places.{lanes_of}
+use Rattle.band_core.specs.Places.{lanes_of}
 use Rattle.band_claims.proofs.Cutting.{cell_at}
 use Rattle.band_claims.proofs.putting.cut_of.Goals as goal
 

@@ -1,8 +1,8 @@
 -- make_words: the words of so many cells of a piece of that phase, from cell `first` on.
 use Rattle.std.proofs.lemmas.Grind.{common_steps}
 use Rattle.std.proofs.Common.{◌≡◌, ℕ, ◌+◌, ◌-◌, ◌*◌, ◌<◌, ◌≤◌, List, length, slice_index, sym, ap, ◌∙◌, subst, arith}
-use Rattle.row_cells.specs.Places.{lanes_of}
-use Rattle.row_cells.proofs.Numbers.{as_many}
+use Rattle.band_core.specs.Places.{lanes_of}
+use Rattle.band_core.proofs.Numbers.{as_many}
 use Rattle.band_claims.proofs.Cutting.{cell_at, within_span, zero_cell}
 use Rattle.band_claims.proofs.putting.make_words.Goals as goal
 

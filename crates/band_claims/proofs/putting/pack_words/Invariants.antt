@@ -1,6 +1,6 @@
 -- How far the loops of `pack_words` have come.
 use Rattle.std.proofs.Common.{◌≡◌, ℕ, ◌+◌, ◌<◌, slice_index}
-use Rattle.row_cells.specs.Places.{first_cell_of}
+use Rattle.band_core.specs.Places.{first_cell_of}
 use Rattle.band_claims.specs.TableKeys.{cell}
 use Rattle.band_claims.proofs.putting.pack_words.Given as goal
 

@@ -1,7 +1,7 @@
 -- What `part_of` has to show.
 use Rattle.std.proofs.Common.{ℕ, ◌+◌, ◌-◌, List, drop, slice_index, ap, ◌∙◌, arith}
 use Rattle.std.proofs.lemmas.List.{get_or-drop, get_or-take}
-use Rattle.row_cells.proofs.Numbers.{cut_out}
+use Rattle.band_core.proofs.Numbers.{cut_out}
 use Rattle.band_claims.proofs.putting.part_of.Goals as goal
 
 pub returns-clause-each : goal.returns-clause-each

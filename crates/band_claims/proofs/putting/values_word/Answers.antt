@@ -1,7 +1,7 @@
 -- What `values_word` has to show.
 use Rattle.std.proofs.lemmas.Grind.{common_steps}
 use Rattle.std.proofs.Common.{ℕ, List, ◌∙◌, arith}
-use Rattle.row_cells.proofs.Numbers.{as_many}
+use Rattle.band_core.proofs.Numbers.{as_many}
 use Rattle.band_claims.proofs.Cutting.{AreCellValues, packs, small}
 use Rattle.band_claims.proofs.putting.values_word.Goals as goal
 

@@ -1,6 +1,6 @@
 -- never_stuck_law: where no piece is claimed and some piece is not done, some free piece has all
 -- its needs done.
-use Rattle.band_board.proofs.Runs.{no_stuck}
+use Rattle.band_core.proofs.Runs.{no_stuck}
 use Rattle.band_core.specs.Shapes.{shape_of}
 use Rattle.band_core.proofs.Shapes.{is_shape}
 use Rattle.band_core.proofs.laws.never_stuck_law.Goals as goal

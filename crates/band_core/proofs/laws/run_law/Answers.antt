@@ -1,6 +1,6 @@
 -- run_law: over every run of a page each board is sound for it, no cell changes once it is filled,
 -- and no piece is claimed twice or done twice.
-use Rattle.band_board.proofs.Runs.{run_law}
+use Rattle.band_core.proofs.Runs.{run_law}
 use Rattle.band_core.specs.Recipe.{recipe}
 use Rattle.band_core.specs.Shapes.{shape_of}
 use Rattle.band_core.specs.Values.{cell}

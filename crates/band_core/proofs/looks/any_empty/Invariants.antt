@@ -1,7 +1,7 @@
 -- The loops of any_empty: whether some cell of a piece is empty.
 use Rattle.std.proofs.Common.{◌≡◌, ◌+◌, ◌==◌, slice_index}
 use Rattle.lists.specs.Words.{any_below}
-use Rattle.row_cells.specs.Places.{first_cell_of, cell_total}
+use Rattle.band_core.specs.Places.{first_cell_of, cell_total}
 use Rattle.band_core.proofs.looks.any_empty.Given as goal
 
 abbrev pub invariant-loop-o : goal.invariant-loop-o

@@ -1,8 +1,8 @@
 -- The loops of any_lacks: whether some need of a piece is not done.
 use Rattle.std.proofs.Common.{◌≡◌, true, false}
 use Rattle.lists.specs.Words.{count_below}
-use Rattle.band_graph.specs.Needs.{is_need}
-use Rattle.row_cells.specs.Places.{piece_count}
+use Rattle.band_core.specs.Needs.{is_need}
+use Rattle.band_core.specs.Places.{piece_count}
 use Rattle.band_core.proofs.LookLemmas.{Lacks, DoneBefore}
 use Rattle.band_core.proofs.looks.any_lacks.Given as goal
 

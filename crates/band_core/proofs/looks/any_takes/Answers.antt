@@ -1,6 +1,6 @@
 -- any_takes: whether a cell is one of a claimed piece.
 use Rattle.std.proofs.Common.{◌<◌, ◌∙◌, arith}
-use Rattle.row_cells.specs.Places.{piece_count}
+use Rattle.band_core.specs.Places.{piece_count}
 use Rattle.band_core.proofs.LookLemmas.{hand_is, ends_fit}
 use Rattle.band_core.proofs.looks.any_takes.Goals as goal
 

@@ -2,9 +2,9 @@
 use Rattle.std.proofs.Common.{◌≡◌, ◌+◌, nat_le, nat_lt, ◌&&◌}
 use Rattle.std.specs.Prelude.{slice_index_or}
 use Rattle.lists.specs.Words.{any_below}
-use Rattle.row_cells.specs.Places.{first_cell_of, cell_total, piece_count}
-use Rattle.band_board.specs.declared.state.State.TheVariants.{Free}
-use Rattle.band_board.specs.Boards.{state_claimed}
+use Rattle.band_core.specs.Places.{first_cell_of, cell_total, piece_count}
+use Rattle.band_core.specs.declared.state.State.TheVariants.{Free}
+use Rattle.band_core.specs.Boards.{state_claimed}
 use Rattle.band_core.proofs.looks.any_takes.Given as goal
 
 abbrev pub invariant-loop-i : goal.invariant-loop-i

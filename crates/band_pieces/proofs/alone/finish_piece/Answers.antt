@@ -1,7 +1,7 @@
 -- finish_piece: makes a piece that is left, whose needs are among the pieces before it.
 use Rattle.std.proofs.Common.{◌<◌, sym, ◌∙◌, subst}
 use Rattle.page_model.specs.Bands.{pieces_of}
-use Rattle.row_cells.specs.Layouts.{Layout}
+use Rattle.band_core.specs.Layouts.{Layout}
 use Rattle.band_claims.specs.declared.table_key.TableKey.{TableKey}
 use Rattle.band_pieces.proofs.Finishing.{finished_now, finished_same, needs_known}
 use Rattle.band_pieces.proofs.alone.finish_piece.Goals as goal

@@ -2,8 +2,8 @@
 use Rattle.std.proofs.lemmas.Grind.{common_steps}
 use Rattle.std.proofs.Common.{◌+◌, ◌<◌, sym, ap, ◌∙◌, subst, arith}
 use Rattle.page_model.specs.Bands.{pieces_of}
-use Rattle.row_cells.specs.Layouts.{Layout}
-use Rattle.row_cells.specs.Places.{cell_total, first_cell_of}
+use Rattle.band_core.specs.Layouts.{Layout}
+use Rattle.band_core.specs.Places.{cell_total, first_cell_of}
 use Rattle.band_claims.specs.declared.table_key.TableKey.{TableKey}
 use Rattle.band_claims.specs.TableKeys.{cell}
 use Rattle.band_claims.specs.Filled.{AreValues}

@@ -1,8 +1,8 @@
 -- put_word: puts its defined word in cell o of a piece, whose first cells, o of them, have theirs.
 use Rattle.std.proofs.Common.{◌+◌, ap, ◌∙◌, arith}
 use Rattle.std.specs.Prelude.{slice_set}
-use Rattle.row_cells.specs.Layouts.{Layout}
-use Rattle.row_cells.specs.Places.{first_cell_of}
+use Rattle.band_core.specs.Layouts.{Layout}
+use Rattle.band_core.specs.Places.{first_cell_of}
 use Rattle.band_claims.specs.TableKeys.{shape_of}
 use Rattle.band_claims.proofs.Steps.{small_word}
 use Rattle.band_pieces.proofs.Cells.{has_at}

@@ -4,14 +4,14 @@ use Rattle.std.proofs.Common.{rules, ◌≡◌, ℕ, ◌+◌, ◌<◌, ◌≤◌
 use Rattle.page_model.specs.declared.bands.Bands.{Bands}
 use Rattle.page_model.specs.declared.parts.PageParts.{PageParts}
 use Rattle.row_values.specs.declared.rows.Rows.{Rows}
-use Rattle.row_cells.specs.Places.{per_row}
+use Rattle.band_core.specs.Places.{per_row}
 use Rattle.band_core.specs.Values.{row_value}
 use Rattle.row_values.specs.Rows.{HoldsRows}
 use Rattle.band_claims.specs.declared.table_key.TableKey.{TableKey}
 use Rattle.band_pieces.specs.Spans.{rows_of_piece}
 use Rattle.std.proofs.lemmas.Grind.{common_steps}
 use Rattle.std.proofs.Common.{refl}
-use Rattle.row_cells.specs.Layouts.{Layout}
+use Rattle.band_core.specs.Layouts.{Layout}
 use Rattle.page_model.specs.Bands.{pieces_of}
 use Rattle.page_model.specs.Columns.{halo}
 use Rattle.band_pieces.proofs.Held.{answers_to, made_values, marks_from}

@@ -2,7 +2,7 @@
 use Rattle.std.proofs.Common.{◌/◌, sym, subst, arith}
 use Rattle.page_model.specs.declared.parts.PageParts.{PageParts}
 use Rattle.page_model.proofs.BandLemmas.{piece_inside, row_in_band}
-use Rattle.row_cells.specs.Places.{per_row}
+use Rattle.band_core.specs.Places.{per_row}
 use Rattle.band_core.specs.Values.{row_value}
 use Rattle.row_values.specs.Rows.{HoldsRows}
 use Rattle.band_pieces.proofs.Held.{lies_for, marks_from}

@@ -4,7 +4,7 @@ use Rattle.std.proofs.Common.{◌<◌, sym, ap, ◌∙◌, subst, arith}
 use Rattle.band_claims.specs.declared.table_key.TableKey.{TableKey}
 use Rattle.band_claims.specs.TableKeys.{IsFit, shape_of}
 use Rattle.band_claims.specs.Views.{times}
-use Rattle.band_workers.specs.Accounts.{IsAccounted}
+use Rattle.band_claims.specs.Accounts.{IsAccounted}
 use Rattle.band_pieces.proofs.Finishing.{each_once, was_left}
 use Rattle.band_pieces.proofs.pages.finish_table.Goals as goal
 

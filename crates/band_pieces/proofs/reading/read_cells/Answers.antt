@@ -4,8 +4,8 @@ use Rattle.std.proofs.Common.{◌≡◌, ℕ, ◌+◌, ◌*◌, ◌≤◌, sym, 
 use Rattle.band_core.specs.Values.{value}
 use Rattle.band_claims.specs.declared.table_key.TableKey.{TableKey}
 use Rattle.page_model.specs.Bands.{phase_of}
-use Rattle.row_cells.specs.Layouts.{IsLayout, Layout}
-use Rattle.row_cells.specs.Places.{lanes_of, value_total}
+use Rattle.band_core.specs.Layouts.{IsLayout, Layout}
+use Rattle.band_core.specs.Places.{lanes_of, value_total}
 use Rattle.band_claims.proofs.Cutting.{few_values}
 use Rattle.band_pieces.proofs.Runs.{cells_few, next_cell, values_more}
 use Rattle.band_pieces.proofs.reading.read_cells.Goals as goal

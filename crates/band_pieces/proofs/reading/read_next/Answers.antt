@@ -3,7 +3,7 @@ use Rattle.std.proofs.Common.{◌≡◌, ℕ, ◌*◌, ◌/◌, sym, ap, ◌∙�
 use Rattle.std.proofs.lemmas.Grind.{common_steps}
 use Rattle.page_model.specs.declared.bands.Bands.{Bands}
 use Rattle.page_model.specs.Bands.{phase_of}
-use Rattle.row_cells.specs.Places.{lanes_of, value_total}
+use Rattle.band_core.specs.Places.{lanes_of, value_total}
 use Rattle.band_core.specs.Values.{value}
 use Rattle.band_claims.proofs.Cutting.{few_values}
 use Rattle.band_claims.specs.declared.table_key.TableKey.{TableKey}

@@ -1,9 +1,9 @@
 -- read_part: unpacks values from one cell.
 use Rattle.std.proofs.lemmas.Grind.{common_steps}
 use Rattle.std.proofs.Common.{rules, ℕ, ◌+◌, ◌-◌, sym, ap, ◌∙◌, subst, arith}
-use Rattle.row_cells.specs.Packing.{lane}
-use Rattle.row_cells.specs.Places.{first_cell_of}
-use Rattle.band_board.specs.Shapes.{Has}
+use Rattle.band_core.specs.Packing.{lane}
+use Rattle.band_core.specs.Places.{first_cell_of}
+use Rattle.band_core.specs.TableShapes.{Has}
 use Rattle.band_claims.specs.declared.table_key.TableKey.{TableKey}
 use Rattle.band_claims.specs.TableKeys.{cell, shape_of}
 use Rattle.band_claims.proofs.Steps.{cell_some, small_word}

@@ -1,7 +1,7 @@
 -- unpack_at: unpacks the first values of a cell to a place.
 use Rattle.std.proofs.Common.{ℕ, List, take, slice_index, ap, ◌∙◌, arith, length-take}
 use Rattle.std.proofs.lemmas.List.{get_or_append_left, get_or-take}
-use Rattle.row_cells.proofs.Numbers.{as_many, part_written}
+use Rattle.band_core.proofs.Numbers.{as_many, part_written}
 use Rattle.band_pieces.proofs.reading.unpack_at.Goals as goal
 
 pub returns-clause-kept : goal.returns-clause-kept

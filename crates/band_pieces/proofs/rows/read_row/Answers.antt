@@ -4,7 +4,7 @@ use Rattle.std.proofs.lemmas.Grind.{common_steps}
 use Rattle.std.specs.Prelude.{slice_index}
 use Rattle.page_model.specs.Bands.{band_of_row, phase_of, piece_of}
 use Rattle.page_model.proofs.BandLemmas.{phase_of_piece}
-use Rattle.row_cells.specs.Places.{bits_of}
+use Rattle.band_core.specs.Places.{bits_of}
 use Rattle.band_core.specs.Values.{value}
 use Rattle.band_claims.specs.declared.table_key.TableKey.{TableKey}
 use Rattle.band_pieces.proofs.RowPieces.{Row, row_band, row_ends, row_values_are, some_per_row}

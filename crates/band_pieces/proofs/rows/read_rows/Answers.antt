@@ -2,7 +2,7 @@
 -- known.
 use Rattle.std.proofs.lemmas.Grind.{common_steps}
 use Rattle.std.proofs.Common.{ℕ, ◌+◌, ◌∙◌, arith}
-use Rattle.row_cells.specs.Places.{per_row}
+use Rattle.band_core.specs.Places.{per_row}
 use Rattle.band_core.specs.Values.{row_value}
 use Rattle.row_values.proofs.RowLemmas.{rows_more}
 use Rattle.band_pieces.proofs.rows.read_rows.Goals as goal

@@ -1,7 +1,7 @@
 -- The loops of read_rows: the values of a phase of these rows, row by row, where the pieces of
 -- their bands are known.
 use Rattle.std.proofs.Common.{◌≡◌, ℕ, ◌+◌, ◌*◌, ◌<◌, length, slice_index}
-use Rattle.row_cells.specs.Places.{per_row}
+use Rattle.band_core.specs.Places.{per_row}
 use Rattle.band_core.specs.Values.{row_value}
 use Rattle.band_pieces.proofs.rows.read_rows.Given as goal
 

@@ -3,7 +3,7 @@ use Rattle.std.proofs.Common.{◌≡◌, ℕ, List, [], ◌∷◌, ◌++◌, len
 use Rattle.std.specs.Prelude.{slice_index_or}
 use Rattle.std.proofs.lemmas.List.Elements.{All-append}
 use Rattle.page_model.specs.Page.{plates, width}
-use Rattle.row_cells.specs.Layouts.{Layout}
+use Rattle.band_core.specs.Layouts.{Layout}
 use Rattle.band_pieces.specs.Room.{Memory}
 use Rattle.band_tests.proofs.made.scratches.Goals as goal
 

@@ -1,7 +1,7 @@
 -- both_zones: the words of both bands' zones, where the pass finds them done.
 use Rattle.std.proofs.Common.{◌≡◌, ℕ, ◌+◌, inl, inr, arith, subst}
 use Rattle.std.proofs.lemmas.Bool.{cases_eq}
-use Rattle.band_board.specs.Shapes.{Has}
+use Rattle.band_core.specs.TableShapes.{Has}
 use Rattle.band_claims.specs.TableKeys.{shape_of}
 use Rattle.band_claims.specs.Views.{Knows}
 use Rattle.band_claims.proofs.Looking.{knows_here, knows_more}

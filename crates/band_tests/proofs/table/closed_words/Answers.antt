@@ -2,7 +2,7 @@
 -- done, before and after it is finished alone.
 use Rattle.std.proofs.Common.{◌<◌, sym, ap, ◌∙◌, subst, arith}
 use Rattle.band_claims.specs.declared.table_key.TableKey.{TableKey}
-use Rattle.row_cells.specs.Places.{cells_of}
+use Rattle.band_core.specs.Places.{cells_of}
 use Rattle.band_tests.proofs.OneZone.{two_cells}
 use Rattle.band_tests.proofs.table.closed_words.Goals as goal
 

@@ -1,7 +1,7 @@
 -- make_zone: makes the zones of the band that the pass holds.
 use Rattle.std.proofs.Common.{ℕ, ◌+◌, sym, ap, ◌∙◌, arith}
 use Rattle.band_claims.specs.TableKeys.{cell}
-use Rattle.row_cells.specs.Places.{first_cell_of}
+use Rattle.band_core.specs.Places.{first_cell_of}
 use Rattle.band_tests.proofs.OneZone.{one_cell, cell_is_1}
 use Rattle.band_tests.proofs.table.make_zone.Goals as goal
 

@@ -4,7 +4,7 @@ use Rattle.std.proofs.lemmas.Grind.{common_steps}
 use Rattle.std.proofs.Common.{◌≡◌, ℕ, suc, ◌+◌, ◌*◌, min, List, length, ap, ◌∙◌, arith, count_by, nat_eq}
 use Rattle.std.proofs.Math.Nat.{add-mul}
 use Rattle.page_model.specs.declared.parts.Plane.{Plane}
-use Rattle.plane_shapes.specs.Shapes.{wide, tall}
+use Rattle.page_model.specs.Shapes.{wide, tall}
 use Rattle.misregister.specs.Sweep.{least_shade, shade}
 use Rattle.misregister.proofs.CountLemmas.{risk_by}
 use Rattle.misregister.proofs.count.risk_count.Goals as goal

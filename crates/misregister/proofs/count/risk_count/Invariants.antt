@@ -1,7 +1,7 @@
 -- The loops of risk_count: how many samples of the sheet are at risk where each plate shifts by at
 -- most `radius` samples to each side.
 use Rattle.std.proofs.Common.{◌≡◌, ◌+◌, ◌<◌, ◌*◌, ℕ}
-use Rattle.plane_shapes.specs.Shapes.{wide, tall}
+use Rattle.page_model.specs.Shapes.{wide, tall}
 use Rattle.misregister.specs.Sweep.{HasRoom, KeepsMemory, at, least_shade}
 use Rattle.misregister.proofs.count.risk_count.Given as goal
 

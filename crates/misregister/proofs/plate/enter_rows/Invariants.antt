@@ -1,6 +1,6 @@
 -- The loops of enter_rows: asks plate c for the first rows.
 use Rattle.std.proofs.Common.{◌≡◌, ℕ, ◌+◌, ◌*◌, List}
-use Rattle.plane_shapes.specs.Shapes.{wide}
+use Rattle.page_model.specs.Shapes.{wide}
 use Rattle.misregister.specs.Sweep.{HasRoom, IsUnderWay, KeepsMemory}
 use Rattle.misregister.proofs.plate.enter_rows.Given as goal
 

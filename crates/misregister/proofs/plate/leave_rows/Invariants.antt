@@ -1,6 +1,6 @@
 -- The loops of leave_rows: closes the last rows, all rows having been asked.
 use Rattle.std.proofs.Common.{ℕ, ◌+◌, ◌≤◌, List}
-use Rattle.plane_shapes.specs.Shapes.{tall}
+use Rattle.page_model.specs.Shapes.{tall}
 use Rattle.misregister.specs.Sweep.{HasRoom, IsUnderWay, KeepsMemory}
 use Rattle.misregister.proofs.plate.leave_rows.Given as goal
 

@@ -1,7 +1,7 @@
 -- pass_rows: asks plate c for each row that is left, and closes the row that lies `radius` above
 -- it.
 use Rattle.std.proofs.Common.{◌+◌, ◌≤◌, ◌∙◌, min, refl, arith}
-use Rattle.plane_shapes.specs.Shapes.{tall}
+use Rattle.page_model.specs.Shapes.{tall}
 use Rattle.misregister.proofs.PlateLemmas.{way_at}
 use Rattle.misregister.proofs.plate.pass_rows.Goals as goal
 

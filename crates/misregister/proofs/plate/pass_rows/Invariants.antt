@@ -1,7 +1,7 @@
 -- The loops of pass_rows: asks plate c for each row that is left, and closes the row that lies
 -- `radius` above it.
 use Rattle.std.proofs.Common.{◌≡◌, ℕ, ◌+◌, ◌*◌, min, List}
-use Rattle.plane_shapes.specs.Shapes.{wide, tall}
+use Rattle.page_model.specs.Shapes.{wide, tall}
 use Rattle.misregister.specs.Sweep.{HasRoom, IsUnderWay, KeepsMemory}
 use Rattle.misregister.proofs.plate.pass_rows.Given as goal
 

@@ -3,7 +3,7 @@ use Rattle.std.proofs.lemmas.Grind.{common_steps}
 use Rattle.std.proofs.Common.{List, ℕ, min, slice_index, ap, ◌∙◌, refl, arith}
 use Rattle.std.specs.Vec.{with_items}
 use Rattle.std.proofs.lemmas.List.{with_items_is}
-use Rattle.plane_shapes.specs.Shapes.{tall}
+use Rattle.page_model.specs.Shapes.{tall}
 use Rattle.misregister.proofs.PlateLemmas.{way_at, way_begun, way_done}
 use Rattle.misregister.proofs.plate.shade_plate.Goals as goal
 

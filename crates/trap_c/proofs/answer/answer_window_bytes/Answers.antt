@@ -1,7 +1,7 @@
 -- Goals of answer_window_bytes that want a lemma by name.
 use Rattle.std.proofs.lemmas.Grind.{common_steps}
 use Rattle.std.proofs.Common.{arith, ℕ, List, length, subst}
-use Rattle.sheet_windows.specs.declared.cuts.Cut.{Cut}
+use Rattle.sheet_geometry.specs.declared.cuts.Cut.{Cut}
 use Rattle.trap_c.specs.Calls.{Tells}
 use Rattle.trap_c.specs.Cores.{HaveCores}
 use Rattle.trap_c.specs.Requests.{asked}

@@ -1,8 +1,8 @@
 -- carry_out: reads the page, traps it, and only then writes.
 use Rattle.std.proofs.lemmas.Grind.{common_steps}
 use Rattle.std.proofs.Common.{arith}
-use Rattle.page_gather.proofs.GatherLemmas.{gathered}
-use Rattle.trap_words.specs.Held.{page_in}
+use Rattle.page_files.proofs.GatherLemmas.{gathered}
+use Rattle.trap_cli.specs.Held.{page_in}
 use Rattle.trap_cli.specs.Commands.{sources_of, targets_of}
 use Rattle.trap_cli.proofs.EndLemmas.{read_and_put, refused_first}
 use Rattle.trap_cli.proofs.page.carry_out.Goals as goal

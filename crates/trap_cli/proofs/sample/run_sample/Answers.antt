@@ -1,6 +1,6 @@
 -- run_sample: traps a sample page and tells its report, and gives how the command ends.
 use Rattle.std.proofs.Common.{◌∙◌}
-use Rattle.trap_words.specs.Held.{sample_in}
+use Rattle.trap_cli.specs.Held.{sample_in}
 use Rattle.trap_cli.proofs.SampleLemmas.{told_a_part, told_whole}
 use Rattle.trap_cli.proofs.sample.run_sample.Goals as goal
 

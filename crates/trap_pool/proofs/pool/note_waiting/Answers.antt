@@ -1,6 +1,6 @@
 -- note_waiting: adds the line's number, where its page waits to be trapped.
 use Rattle.std.proofs.Common.{ℕ, List, ◌<◌, ◌+◌, sym, subst, arith}
-use Rattle.line_queue.specs.Rule.{Ascends, times}
+use Rattle.trap_pool.specs.Rule.{Ascends, times}
 use Rattle.trap_pool.proofs.Numbers.{above_both, ascends_more}
 use Rattle.trap_pool.proofs.pool.note_waiting.Goals as goal
 

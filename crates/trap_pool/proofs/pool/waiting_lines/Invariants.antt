@@ -1,6 +1,6 @@
 -- The loops of waiting_lines: the lines whose pages wait to be trapped, in order.
 use Rattle.std.proofs.Common.{◌≤◌, length, vec_capacity, vec_len}
-use Rattle.line_queue.specs.Rule.{Ascends, IsAbove}
+use Rattle.trap_pool.specs.Rule.{Ascends, IsAbove}
 use Rattle.trap_pool.proofs.pool.waiting_lines.Given as goal
 
 abbrev pub invariant-loop-number : goal.invariant-loop-number

@@ -2,7 +2,7 @@
 -- another.
 use Rattle.std.proofs.Common.{◌-◌, ◌*◌, ◌<◌, ℕ, List, length, take, drop, get_or, sym, ap, ◌∙◌, arith, length-drop, length-take}
 use Rattle.page_model.specs.Planes.{tints_of}
-use Rattle.plane_shapes.specs.Shapes.{wide}
+use Rattle.page_model.specs.Shapes.{wide}
 use Rattle.trap_set.proofs.SkipLemmas.{span_at}
 use Rattle.trap_set.proofs.samples.plane_is_same.Goals as goal
 

@@ -1,6 +1,6 @@
 -- put_lines: puts the first two lines, and those of the runs.
 use Rattle.std.proofs.Common.{◌++◌}
-use Rattle.plane_shapes.specs.Shapes.{tall}
+use Rattle.page_model.specs.Shapes.{tall}
 use Rattle.trap_set.specs.Rows.{rows_text}
 use Rattle.trap_set.specs.SetText.{head_of, page_line, title_line}
 use Rattle.trap_set.proofs.HoldingLemmas.{puts_then, puts_failed}

@@ -1,6 +1,6 @@
 -- put_set: puts the whole set.
 use Rattle.std.proofs.Common.{◌++◌, sym, refl}
-use Rattle.plane_shapes.specs.Shapes.{tall}
+use Rattle.page_model.specs.Shapes.{tall}
 use Rattle.trap_set.specs.Rows.{rows_text}
 use Rattle.trap_set.specs.SetText.{head_of, page_line, title_line, end_line, set_text}
 use Rattle.trap_set.proofs.HoldingLemmas.{puts_as, puts_then, puts_prefix}

@@ -1,6 +1,6 @@
 -- put_row: puts the lines of the runs of a row.
 use Rattle.std.proofs.Common.{◌++◌, ◌+◌, sym, refl, arith, Ok, Err}
-use Rattle.plane_shapes.specs.Shapes.{wide}
+use Rattle.page_model.specs.Shapes.{wide}
 use Rattle.trap_set.specs.Rows.{row_text, run_text}
 use Rattle.trap_set.proofs.HoldingLemmas.{puts_as, puts_then, puts_prefix}
 use Rattle.trap_set.proofs.TextLemmas.{row_next, row_after}

@@ -1,7 +1,7 @@
 -- put_rows: puts the lines of all runs.
 use Rattle.std.proofs.lemmas.Grind.{common_steps}
 use Rattle.std.proofs.Common.{◌++◌, ◌+◌, sym, refl, arith, Ok, Err}
-use Rattle.plane_shapes.specs.Shapes.{wide, tall}
+use Rattle.page_model.specs.Shapes.{wide, tall}
 use Rattle.trap_set.specs.Rows.{row_text, rows_text}
 use Rattle.trap_set.proofs.HoldingLemmas.{puts_as, puts_then, puts_prefix}
 use Rattle.trap_set.proofs.TextLemmas.{rows_next, rows_after}

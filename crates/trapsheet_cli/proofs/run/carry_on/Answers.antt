@@ -1,6 +1,6 @@
 -- carry_on: judges the sheet, reads it once more, traps it and writes its files.
 use Rattle.std.proofs.Common.{ℕ, List, map, sym, ◌∙◌, subst}
-use Rattle.trapsheet_words.specs.Held.{order_in}
+use Rattle.trapsheet_cli.specs.Held.{order_in}
 use Rattle.trapsheet_cli.specs.Planned.{PutsPlanned}
 use Rattle.trapsheet_cli.specs.Files.{sources_of, targets_of}
 use Rattle.trapsheet_cli.proofs.CarryLemmas.{as_many_files, carries_on, not_judged, ready}

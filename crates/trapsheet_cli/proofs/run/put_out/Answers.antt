@@ -3,8 +3,8 @@ use Rattle.std.proofs.Common.{◌≤◌, ℕ, List, length, ap, sym, ◌∙◌, 
 use Rattle.std.specs.List.{All}
 use Rattle.page_model.specs.declared.parts.Plane.{Plane}
 use Rattle.page_model.specs.Limits.{most_maxval}
-use Rattle.sheet_output.proofs.OutcomeLemmas.{trapped_count}
-use Rattle.strip_steps.proofs.SheetTints.{maxvals_fit, tints_fit}
+use Rattle.sheet_files.proofs.OutcomeLemmas.{trapped_count}
+use Rattle.sheet_stream.proofs.SheetTints.{maxvals_fit, tints_fit}
 use Rattle.trapsheet_cli.proofs.run.put_out.Goals as goal
 
 pub put_outcome-requires-clause-can : goal.put_outcome-requires-clause-can

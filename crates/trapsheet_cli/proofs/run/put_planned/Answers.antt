@@ -2,8 +2,8 @@
 -- strip where it can be cut so.
 use Rattle.std.proofs.lemmas.Grind.{common_steps}
 use Rattle.std.proofs.Common.{arith, subst, sym}
-use Rattle.bare_sheets.specs.Planned.{IsPlan}
-use Rattle.sheet_output.specs.Holding.{CanHold}
+use Rattle.sheet_geometry.specs.Planned.{IsPlan}
+use Rattle.sheet_files.specs.Holding.{CanHold}
 use Rattle.trapsheet_cli.specs.Planned.{PutsPlanned}
 use Rattle.trapsheet_cli.proofs.PlanLemmas.{hold_page, hold_windows, no_cut, no_strips_by}
 use Rattle.trapsheet_cli.proofs.run.put_planned.Goals as goal

@@ -1,8 +1,8 @@
 -- What `put_strips` has to show.
 use Rattle.std.proofs.lemmas.Grind.{common_steps}
 use Rattle.std.proofs.Common.{arith, ℕ, List, Bor, map, ap, ◌∙◌, subst}
-use Rattle.sheet_loop.specs.Second.{course_of}
-use Rattle.sheet_output.specs.Streaming.{StreamsOut}
+use Rattle.sheet_stream.specs.Second.{course_of}
+use Rattle.sheet_files.specs.Streaming.{StreamsOut}
 use Rattle.trapsheet_cli.proofs.run.put_strips.Goals as goal
 
 pub returns : goal.returns

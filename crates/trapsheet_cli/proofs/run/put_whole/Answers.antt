@@ -1,6 +1,6 @@
 -- What `put_whole` has to show.
 use Rattle.std.proofs.Common.{ℕ, List, Bor, map, sym, ◌∙◌}
-use Rattle.trapsheet_words.specs.Held.{order_in}
+use Rattle.trapsheet_cli.specs.Held.{order_in}
 use Rattle.trapsheet_cli.specs.Planned.{PutsWhole}
 use Rattle.trapsheet_cli.specs.Files.{targets_of}
 use Rattle.trapsheet_cli.proofs.HeldLemmas.{held_in, held_plates, held_sheet, not_held}

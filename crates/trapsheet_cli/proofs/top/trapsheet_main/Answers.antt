@@ -1,6 +1,6 @@
 -- trapsheet_main: traps a sheet of any size, and answers the status that the program ends with.
 use Rattle.std.proofs.Common.{map, string_bytes, Global}
-use Rattle.sheet_gather.specs.Inputs.{held_by}
+use Rattle.sheet_files.specs.Inputs.{held_by}
 use Rattle.trapsheet_cli.specs.Files.{sources_of}
 use Rattle.trapsheet_cli.proofs.ClauseLemmas.{completeness, fault_line, leaves_files, read_fault, refused_input, reopened, success, usage, write_fault}
 use Rattle.trapsheet_cli.proofs.LocalityLemmas.{changes_near_edges}

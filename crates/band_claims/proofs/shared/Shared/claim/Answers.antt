@@ -6,7 +6,7 @@ use Rattle.std.specs.Prelude.{IsTrue}
 use Rattle.lists.specs.Words.{count_below}
 use Rattle.page_model.specs.declared.bands.Bands.{Bands}
 use Rattle.page_model.specs.Bands.{AreBands, pieces_of}
-use Rattle.band_graph.specs.Needs.{is_need}
+use Rattle.band_core.specs.Needs.{is_need}
 use Rattle.band_claims.specs.declared.table_key.TableKey.{TableKey}
 use Rattle.band_claims.proofs.Looking.{looks_more, knows_next, lost_exchange, won_by, all_known}
 use Rattle.band_claims.proofs.shared.Shared.claim.Goals as goal

@@ -3,7 +3,7 @@ use Rattle.std.proofs.lemmas.Grind.{common_steps}
 use Rattle.std.proofs.Common.{ap, ◌∙◌, sym, arith, ◌<◌, ◌≡◌, ℕ, ◌+◌, Some}
 use Rattle.band_claims.specs.TableKeys.{shape_of, cell}
 use Rattle.band_claims.proofs.Carrying.{carried}
-use Rattle.band_board.specs.Shapes.{Has}
+use Rattle.band_core.specs.TableShapes.{Has}
 use Rattle.band_claims.proofs.Steps.{puts, small_word, fit_shape}
 use Rattle.band_claims.proofs.shared.Shared.put_cell.Goals as goal
 

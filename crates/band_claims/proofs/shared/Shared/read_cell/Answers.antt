@@ -2,7 +2,7 @@
 use Rattle.std.proofs.lemmas.Grind.{common_steps}
 use Rattle.std.proofs.Common.{ap, ◌∙◌, sym, arith, ◌≡◌, ℕ, ◌+◌, Some}
 use Rattle.page_model.specs.Bands.{pieces_of}
-use Rattle.band_board.specs.Shapes.{Has}
+use Rattle.band_core.specs.TableShapes.{Has}
 use Rattle.band_claims.specs.TableKeys.{shape_of}
 use Rattle.band_claims.specs.Views.{Knows}
 use Rattle.band_claims.proofs.Steps.{reads_word, small_word}

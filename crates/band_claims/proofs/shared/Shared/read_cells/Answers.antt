@@ -3,7 +3,7 @@
 use Rattle.std.proofs.lemmas.Grind.{common_steps}
 use Rattle.std.proofs.Common.{ap, arith, ◌+◌}
 use Rattle.band_claims.specs.TableKeys.{shape_of}
-use Rattle.band_board.specs.Shapes.{Has}
+use Rattle.band_core.specs.TableShapes.{Has}
 use Rattle.band_claims.proofs.Steps.{small_word}
 use Rattle.band_claims.proofs.shared.Shared.read_cells.Goals as goal
 

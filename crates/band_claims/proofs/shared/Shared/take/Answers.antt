@@ -2,7 +2,7 @@
 use Rattle.std.proofs.lemmas.Grind.{common_steps}
 use Rattle.std.proofs.Common.{ap, ◌∙◌, sym, arith, ◌<◌, ◌≡◌, ℕ, None, true}
 use Rattle.page_model.specs.Bands.{pieces_of}
-use Rattle.band_graph.specs.Needs.{is_need}
+use Rattle.band_core.specs.Needs.{is_need}
 use Rattle.band_claims.specs.Views.{Knows}
 use Rattle.band_claims.proofs.Steps.{claims}
 use Rattle.band_claims.proofs.shared.Shared.take.Goals as goal

@@ -7,7 +7,7 @@ use Rattle.band_core.specs.Values.{cell}
 use Rattle.band_core.specs.Recipe.{recipe}
 use Rattle.band_core.proofs.Halo.{halo}
 use Rattle.band_core.proofs.Shapes.{is_shape}
-use Rattle.band_board.proofs.Steps.{sound_next}
+use Rattle.band_core.proofs.Steps.{sound_next}
 use Rattle.band_core.proofs.board.Board.step.Goals as goal
 
 pub returns-clause-sound : goal.returns-clause-sound

@@ -3,9 +3,9 @@ use Rattle.std.proofs.Common.{◌≡◌, ℕ, ◌*◌, ◌≤◌, sym, ap, ◌�
 use Rattle.std.proofs.Math.Nat.{mul-le-mul_right}
 use Rattle.page_model.specs.declared.bands.Bands.{Bands}
 use Rattle.page_model.specs.Columns.{halo}
-use Rattle.row_cells.specs.Layouts.{Layout}
-use Rattle.row_cells.specs.Places.{per_row}
-use Rattle.row_cells.proofs.Places.{rows_fit}
+use Rattle.band_core.specs.Layouts.{Layout}
+use Rattle.band_core.specs.Places.{per_row}
+use Rattle.band_core.proofs.Places.{rows_fit}
 use Rattle.band_pieces.specs.Room.{most_rows}
 use Rattle.band_pieces.proofs.scratch.Scratch.new.Goals as goal
 

@@ -1,0 +1,14 @@
+-- How far the loops of `join_some` have come.
+use Rattle.std.proofs.Common.{◌≡◌, ◌^◌, ◌≤◌, length, drop}
+use Rattle.band_core.specs.Packing.{packed}
+use Rattle.band_core.proofs.packing.join_some.Given as goal
+
+abbrev pub invariant-loop-j : goal.invariant-loop-j
+invariant-loop-j g l = record {
+  within : l.j ≤ length l.values;
+  base : l.base ≡ 2 ^ l.bits;
+  so_far : l.sum ≡ packed l.bits (drop l.j (g.V.CellValue.numbers l.values));
+}
+
+abbrev pub decreases-loop-j : goal.decreases-loop-j
+decreases-loop-j g l = l.j

@@ -1,6 +1,0 @@
--- begins_earlier_law: a sheet that begins with some tints begins with the first of them.
-use Rattle.bare_sheets.proofs.BegunLemmas.{begins_earlier}
-use Rattle.bare_sheets.proofs.laws.begins_earlier_law.Goals as goal
-
-pub returns : goal.returns
-returns c = begins_earlier

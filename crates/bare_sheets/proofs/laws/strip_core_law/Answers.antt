@@ -1,7 +1,0 @@
--- strip_core_law: the rows of a strip's core, trapped in windows of the strip, are rows of the
--- sheet.
-use Rattle.bare_sheets.proofs.CoreLemmas.{core_law}
-use Rattle.bare_sheets.proofs.laws.strip_core_law.Goals as goal
-
-pub returns : goal.returns
-returns c = λ sheet across down at row ok near are is. core_law sheet across down at row ok near are is

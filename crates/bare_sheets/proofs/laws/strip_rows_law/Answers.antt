@@ -1,6 +1,0 @@
--- strip_rows_law: planes that hold the rows of a strip are those of the strip as a sheet.
-use Rattle.bare_sheets.proofs.StripLemmas.{planes_are}
-use Rattle.bare_sheets.proofs.laws.strip_rows_law.Goals as goal
-
-pub returns : goal.returns
-returns c = λ sheet row planes is inside hold. planes_are sheet row is inside planes hold

@@ -1,7 +1,0 @@
--- The loops of first_error: of the faults of these keys the one that stands first.
-use Rattle.std.proofs.Common.{◌≡◌, take}
-use Rattle.colorant_details.specs.Colorants.{first_error}
-use Rattle.colorant_details.proofs.colorants.first_error.Given as goal
-
-abbrev pub invariant-loop-key : goal.invariant-loop-key
-invariant-loop-key l = l.first ≡ first_error l.objects (take l.key-index l.keys)

@@ -1,3 +1,0 @@
-pub mod Colorants
-pub mod Details
-pub mod InkDetails

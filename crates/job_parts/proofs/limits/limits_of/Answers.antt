@@ -1,0 +1,10 @@
+-- limits_of: the limits of these keys, in their order.
+use Rattle.std.proofs.Common.{arith}
+use Rattle.std.proofs.lemmas.Grind.{common_steps}
+use Rattle.job_parts.proofs.limits.limits_of.Goals as goal
+
+pub loop-key-preserved : goal.loop-key-preserved
+loop-key-preserved c = grind (arith, common_steps)
+
+pub returns : goal.returns
+returns c = grind (arith, common_steps)

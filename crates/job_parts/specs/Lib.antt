@@ -1,0 +1,9 @@
+pub mod Applied
+pub mod Fields
+pub mod Limits
+pub mod Settings
+pub mod Colorants
+pub mod Details
+pub mod InkDetails
+pub mod Paths
+pub mod Refusals

@@ -1,6 +1,0 @@
--- join_passes: joins the other pass into this one.
-use Rattle.line_queue.proofs.Keeps.{merges}
-use Rattle.line_queue.proofs.rule.join_passes.Goals as goal
-
-pub absorb-requires-clause-rule : goal.absorb-requires-clause-rule
-absorb-requires-clause-rule g = merges _ _ _ _

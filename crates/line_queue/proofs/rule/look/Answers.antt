@@ -1,6 +1,0 @@
--- look: what the pass knows of the lines in the queue at one moment of the call.
-use Rattle.line_queue.proofs.Keeps.{learns}
-use Rattle.line_queue.proofs.rule.look.Goals as goal
-
-pub learn_as-requires-clause-rule : goal.learn_as-requires-clause-rule
-learn_as-requires-clause-rule g = learns _ _

@@ -1,6 +1,0 @@
--- split_pass: a new pass with one part, which has pushed and taken nothing.
-use Rattle.line_queue.proofs.Keeps.{forks}
-use Rattle.line_queue.proofs.rule.split_pass.Goals as goal
-
-pub another-requires-clause-rule : goal.another-requires-clause-rule
-another-requires-clause-rule g = forks _ _ g.requires.parts

@@ -1,0 +1,10 @@
+pub mod Format
+pub mod Files
+pub mod Writing
+pub mod Assembly
+pub mod Inputs
+pub mod Looks
+pub mod Steps
+pub mod Gathering
+pub mod Verdicts
+pub mod Locality

@@ -1,7 +1,0 @@
--- is_page_file: goals that the search finds slowly.
-use Rattle.std.proofs.lemmas.Grind.{common_steps}
-use Rattle.std.proofs.Common.{arith}
-use Rattle.page_run.proofs.words.is_page_file.Goals as goal
-
-pub returns-then-eq : goal.returns-then-eq
-returns-then-eq c = grind (arith, common_steps)

@@ -1,9 +1,0 @@
-pub mod InHand
-pub mod Reading
-pub mod Words
-pub mod Opened
-pub mod Gathering
-pub mod Text
-pub mod Paging
-pub mod Endings
-pub mod Clauses

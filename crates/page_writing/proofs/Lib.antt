@@ -1,4 +1,0 @@
-pub mod Plates
-pub mod Steps
-pub mod Told
-mod Worked

@@ -1,0 +1,135 @@
+ghost use Rattle.std.specs.Prelude.{◌≤◌, length, map};
+ghost use Rattle.std.specs.Thread.{IsSend, IsSync};
+ghost use Rattle.page_model.specs.Limits.{most_plates};
+ghost use Rattle.plate_rows.specs.Judging.{JudgesPlates, JudgesShare};
+
+use outside::tray::Tray;
+use pgm_plates::rows::Header;
+use crate::judging::{RefusedPlate, first_of, judge_by, refusal_at_plate};
+use refusals::refusal::Refusal;
+use std::convert::AsStr;
+use std::thread;
+use std::thread::Threads;
+
+/// Checks the plates of these files, file k by tray k, and writes their headers to `headers`: side by side, on as many
+/// threads as there are workers, or plates if these are fewer; each thread checks some of the plates in order. It
+/// allocates nothing but what threads take, and keeps nothing of a plate but its header.
+///
+/// The refusal is that of the first refused plate in the order of the files: `Plate` with its fault, by the limits of a
+/// sheet, or `Read` if a read failed, each with the plate's number. Some of the plates after it may have been checked
+/// as well; which of them were begun is not said.
+pub fn judge_plates<H: Threads + Sync, T: Tray + Send, S: AsStr + Sync>(
+    rt: &H,
+    workers: u32,
+    trays: &mut [T],
+    inputs: &[S],
+    headers: &mut [Header],
+) -> Result<(), Refusal>
+    requires some_workers { 1 ≤ workers }
+    requires few { length inputs.now ≤ most_plates }
+    requires trays { length inputs.now ≤ length trays.old }
+    requires headers { length inputs.now ≤ length headers.old }
+    ensures { JudgesPlates (map S.text inputs.now) headers.new (map T.state trays.old)
+        (map T.state trays.new) result }
+{
+    match judge_share(rt, workers as usize, inputs, trays, headers) {
+        Ok(()) => Ok(()),
+        Err(stop) => Err(refusal_at_plate(stop)),
+    }
+}
+
+// Checks some of the plates by a number of workers: one worker checks them in order, several in two shares side by
+// side.
+#[cycle(shares)]
+fn judge_share<H: Threads + Sync, T: Tray + Send, S: AsStr + Sync>(
+    rt: &H,
+    workers: usize,
+    inputs: &[S],
+    trays: &mut [T],
+    headers: &mut [Header],
+) -> Result<(), RefusedPlate>
+    requires few { length inputs.now ≤ most_plates }
+    requires trays { length inputs.now ≤ length trays.old }
+    requires headers { length inputs.now ≤ length headers.old }
+    ensures { JudgesShare (map S.text inputs.now) headers.new (map T.state trays.old)
+        (map T.state trays.new) result }
+{
+    let workers = workers.min(inputs.len());
+    if workers < 2 {
+        return judge_by::<T, S, 131_072>(inputs, trays, headers);
+    }
+    let half = workers / 2;
+    let count = share_of(inputs.len(), half, workers);
+    let (inputs, inputs_after) = inputs.split_at(count);
+    let (trays, trays_after) = trays.split_at_mut(count);
+    let (headers, headers_after) = headers.split_at_mut(count);
+    let (first, second) = judge_beside(
+        rt,
+        half,
+        inputs,
+        trays,
+        headers,
+        workers - half,
+        inputs_after,
+        trays_after,
+        headers_after,
+    );
+    first_of(count as u32, first, second)
+}
+
+// How many of the plates the first workers check, if all workers check about the same number.
+fn share_of(plates: usize, first: usize, workers: usize) -> usize
+    requires few { plates ≤ most_plates }
+    requires some_workers { 1 ≤ workers }
+    requires first { first ≤ workers }
+    requires plates { workers ≤ plates }
+    ensures { result ≤ plates }
+{
+    plates * first / workers
+}
+
+// Checks two shares of plates side by side, each by its workers. It is a function of its own, so that what the closures
+// require is what this function is given.
+#[cycle(shares)]
+fn judge_beside<H: Threads + Sync, T: Tray + Send, S: AsStr + Sync>(
+    rt: &H,
+    workers: usize,
+    inputs: &[S],
+    trays: &mut [T],
+    headers: &mut [Header],
+    workers_after: usize,
+    inputs_after: &[S],
+    trays_after: &mut [T],
+    headers_after: &mut [Header],
+) -> (Result<(), RefusedPlate>, Result<(), RefusedPlate>)
+    requires some_workers { 1 ≤ workers }
+    requires some_workers_after { 1 ≤ workers_after }
+    requires few { length inputs.now ≤ most_plates }
+    requires trays { length inputs.now ≤ length trays.old }
+    requires headers { length inputs.now ≤ length headers.old }
+    requires few_after { length inputs_after.now ≤ most_plates }
+    requires trays_after { length inputs_after.now ≤ length trays_after.old }
+    requires headers_after { length inputs_after.now ≤ length headers_after.old }
+    ensures first { JudgesShare (map S.text inputs.now) headers.new (map T.state trays.old)
+        (map T.state trays.new) result.0 }
+    ensures second { JudgesShare (map S.text inputs_after.now) headers_after.new
+        (map T.state trays_after.old) (map T.state trays_after.new) result.1 }
+{
+    let mut first = || -> Result<(), RefusedPlate>
+        requires bounds { IsSync H.row × IsSend T.row × IsSync S.row }
+        requires few { length inputs.now ≤ most_plates }
+        requires trays { length inputs.now ≤ length trays.now }
+        requires headers { length inputs.now ≤ length headers.now }
+        ensures { JudgesShare (map S.text inputs.entry.now) headers.exit.now
+            (map T.state trays.entry.now) (map T.state trays.exit.now) result }
+    { judge_share(rt, workers, inputs, trays, headers) };
+    let mut second = || -> Result<(), RefusedPlate>
+        requires bounds { IsSync H.row × IsSend T.row × IsSync S.row }
+        requires few { length inputs_after.now ≤ most_plates }
+        requires trays { length inputs_after.now ≤ length trays_after.now }
+        requires headers { length inputs_after.now ≤ length headers_after.now }
+        ensures { JudgesShare (map S.text inputs_after.entry.now) headers_after.exit.now
+            (map T.state trays_after.entry.now) (map T.state trays_after.exit.now) result }
+    { judge_share(rt, workers_after, inputs_after, trays_after, headers_after) };
+    thread::join_mut(rt, &mut first, &mut second)
+}

@@ -1,7 +1,0 @@
--- risk_by: goals that the search finds slowly.
-use Rattle.std.proofs.lemmas.Grind.{common_steps}
-use Rattle.std.proofs.Common.{arith}
-use Rattle.press_check.proofs.risks.risk_by.Goals as goal
-
-pub returns : goal.returns
-returns c = grind (arith, common_steps)

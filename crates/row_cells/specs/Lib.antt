@@ -1,4 +1,0 @@
-pub mod Packing
-pub mod Layouts
-pub mod Places
-pub mod Most

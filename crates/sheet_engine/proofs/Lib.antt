@@ -1,0 +1,9 @@
+pub mod RowSums
+pub mod Growing
+pub mod Whole
+pub mod Adding
+pub mod Walking
+pub mod CoreRows
+pub mod RoomLemmas
+pub mod Wholes
+pub mod WorkLemmas

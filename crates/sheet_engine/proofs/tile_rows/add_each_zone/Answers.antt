@@ -1,0 +1,52 @@
+-- What `add_each_zone` has to show.
+use Rattle.std.proofs.Common.{◌≡◌, ◌<◌, ◌+◌, ◌∙◌, length, arith, refl}
+use Rattle.std.specs.Prelude.{◌==◌}
+use Rattle.page_model.specs.declared.parts.At.{At}
+use Rattle.page_model.specs.Zones.{zone_of}
+use Rattle.page_tally.proofs.CountLemmas.{zone_known}
+use Rattle.sheet_geometry.specs.Areas.{lies_in}
+use Rattle.sheet_engine.proofs.RowSums.{fits, grows_in, grows_none}
+use Rattle.sheet_engine.proofs.tile_rows.add_each_zone.Goals as goal
+
+pub loop-k-init : goal.loop-k-init
+loop-k-init c = grows_none (length c.args.page.now.zones) c.args.y c.args.left (λ z. lies_in z c.args.page.now) c.args.counts.now
+
+pub bounds-counts-zone : goal.bounds-counts-zone
+bounds-counts-zone c =
+    let p : At = record { x = c.args.left + c.loop-k.k; y = c.args.y } in
+    let at = c.requires.zones.each (c.args.left + c.loop-k.k) (omega (arith, c.requires.inside)) in
+    let known = zone_known c.args.page.now p c.plates-valid.ensures.valid in
+    let zone : c.from-zone.result ≡ zone_of c.args.page.now p = c.from-zone.ensures ∙ at in
+    let long = c.loop-k.auto.counts in
+    let room = c.requires.room.long in
+    omega (arith, zone, known, long, room)
+
+pub bounds-counts-zone-in-loop-k : goal.bounds-counts-zone-in-loop-k
+bounds-counts-zone-in-loop-k c =
+    let p : At = record { x = c.args.left + c.loop-k.k; y = c.args.y } in
+    let at = c.requires.zones.each (c.args.left + c.loop-k.k) (omega (arith, c.requires.inside)) in
+    let known = zone_known c.args.page.now p c.plates-valid.ensures.valid in
+    let zone : c.from-zone.result ≡ zone_of c.args.page.now p = c.from-zone.ensures ∙ at in
+    let long = c.loop-k.auto.counts in
+    let room = c.requires.room.long in
+    omega (arith, zone, known, long, room)
+
+pub overflow_add-counts : goal.overflow_add-counts
+overflow_add-counts c =
+    let p : At = record { x = c.args.left + c.loop-k.k; y = c.args.y } in
+    let at = c.requires.zones.each (c.args.left + c.loop-k.k) (omega (arith, c.requires.inside)) in
+    let known = zone_known c.args.page.now p c.plates-valid.ensures.valid in
+    let zone : c.from-zone.result ≡ zone_of c.args.page.now p = c.from-zone.ensures ∙ at in
+    let inside : c.from-zone.result < length c.args.page.now.zones = omega (arith, zone, known) in
+    let t = fits (length c.args.page.now.zones) c.args.y c.args.left c.loop-k.k c.args.wide c.from-zone.result (λ z q. zone_of c.args.page.now q == z) c.args.counts.now c.loop-k.counts c.requires.room inside c.loop-k-test.true c.loop-k.invariant in
+    let few = t.1 in
+    omega (arith, few)
+
+pub loop-k-preserved : goal.loop-k-preserved
+loop-k-preserved c =
+    let p : At = record { x = c.args.left + c.loop-k.k; y = c.args.y } in
+    let at = c.requires.zones.each (c.args.left + c.loop-k.k) (omega (arith, c.requires.inside)) in
+    let known = zone_known c.args.page.now p c.plates-valid.ensures.valid in
+    let zone : c.from-zone.result ≡ zone_of c.args.page.now p = c.from-zone.ensures ∙ at in
+    let inside : c.from-zone.result < length c.args.page.now.zones = omega (arith, zone, known) in
+    grows_in (length c.args.page.now.zones) c.args.y c.args.left c.loop-k.k c.from-zone.result _ (zone_of c.args.page.now) c.args.counts.now c.loop-k.counts c.requires.room.long zone inside refl c.loop-k.invariant

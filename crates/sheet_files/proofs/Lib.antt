@@ -1,0 +1,13 @@
+pub mod TrayLemmas
+pub mod SheetLemmas
+pub mod PlanLemmas
+pub mod GatherLemmas
+pub mod JudgeLemmas
+pub mod RereadLemmas
+pub mod VerdictLemmas
+pub mod SomeLemmas
+pub mod Extending
+pub mod OutcomeLemmas
+pub mod RackLemmas
+pub mod ReportingLemmas
+pub mod StreamingLemmas

@@ -1,0 +1,16 @@
+pub mod Stops
+pub mod Trays
+pub mod SheetFiles
+pub mod Inputs
+pub mod Verdicts
+pub mod Steps
+pub mod Planning
+pub mod Gathering
+pub mod Judging
+pub mod Rereading
+pub mod Racks
+pub mod Kept
+pub mod Trapping
+pub mod Reporting
+pub mod Streaming
+pub mod Holding

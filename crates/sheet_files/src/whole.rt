@@ -1,0 +1,274 @@
+// A whole sheet, strip by strip.
+
+ghost use Rattle.std.specs.Prelude.{◌≡◌, ◌<◌, ◌≤◌, ◌+◌, ◌*◌, ◌++◌, [], ℕ, All, IfOk, IfSome, OnOk, map, length, slice_index_or, slice_set};
+ghost use Rattle.page_model.specs.Page.{height, plates, width};
+ghost use Rattle.page_model.specs.Tints.{new_tints};
+ghost use Rattle.sheet_geometry.specs.Plans.{AreRulers, AreSmall};
+ghost use Rattle.sheet_geometry.specs.Spans.{AreSpans, IsRuler, IsSpan};
+ghost use Rattle.sheet_engine.specs.Strips.{IsSomeSpan, planes_of};
+ghost use Rattle.sheet_engine.specs.Rooms.{IsStripRoom, columns_in, tiles_in};
+ghost use Rattle.sheet_engine.specs.Whole.{AreTintsTo, HasStrip, IsCounted};
+ghost use Rattle.sheet_files.specs.Kept.{IsKept};
+ghost use Rattle.sheet_engine.specs.Works.{AreNone, HasArea};
+ghost use Rattle.sheet_engine.specs.Growth.{AddsArea, HasRooms};
+ghost use Rattle.sheet_geometry.specs.Forms.{form_of};
+
+use lists::list::List;
+use lists::memory::{push, vec_of};
+use page_model::parts::{OutOfMemory, Tints};
+use sheet_geometry::spans::{Ruler, Span, spans_of};
+use std::alloc::Global;
+use std::thread::Threads;
+use sheet_engine::counting::no_sheet_counts;
+use sheet_engine::room::{StripRoom, trap_strip_in};
+use sheet_engine::rows::strip_tints;
+use sheet_engine::counts::SheetCounts;
+use sheet_geometry::window_sheet::Sheet;
+
+/// A sheet after trapping: the new tints of each plate, row by row, and the counts.
+#[derive(Drop)]
+pub struct TrappedSheet {
+    pub tints: List<Tints>,
+    pub counts: SheetCounts,
+}
+
+/// Appends tints to those of plate c.
+fn extend_plate(
+    alloc: Global,
+    out: &mut List<Tints>,
+    c: usize,
+    tints: &[u16],
+) -> Result<(), OutOfMemory>
+    requires { c < length out.old }
+    ensures { OnOk result (out.new
+        ≡ slice_set out.old c (slice_index_or out.old c [] ++ tints.now)) }
+{
+    let mut plate = out.set(c, List::new(alloc)).into_vec();
+    if plate.extend_from_slice(tints).is_err() {
+        return Err(OutOfMemory);
+    }
+    let _empty = out.set(c, List::from_vec(plate));
+    Ok(())
+}
+
+/// Appends the new tints of the strip that was trapped last to those of the strips above it, plate by plate. `line` is
+/// a buffer for a row.
+fn add_strip(
+    alloc: Global,
+    sheet: &Sheet,
+    across: &Ruler,
+    down: &Ruler,
+    row: &Span,
+    room: &StripRoom,
+    line: &mut [u16],
+    out: &mut List<Tints>,
+) -> Result<(), OutOfMemory>
+    requires rulers { AreRulers sheet.now across.now down.now }
+    requires columns { AreSpans across.now 0 (columns_in room.now) (width sheet.now) }
+    requires row { IsSomeSpan down.now row.now }
+    requires tiles { tiles_in room.now ≡ map (planes_of sheet.now row.now) (columns_in room.now) }
+    requires line { length line.old ≡ width sheet.now }
+    requires plates { length out.old ≡ plates sheet.now }
+    ensures line { length line.new ≡ length line.old }
+    ensures out { OnOk result (HasStrip sheet.now (columns_in room.now) row.now out.old out.new) }
+{
+    for c in 0..sheet.plates() {
+        let tints = strip_tints(alloc, sheet, across, down, row, room, c, line)?;
+        extend_plate(alloc, out, c as usize, tints.as_slice())?;
+    }
+    Ok(())
+}
+
+/// An empty list of tints for each plate.
+fn no_tints(alloc: Global, sheet: &Sheet) -> Result<List<Tints>, OutOfMemory>
+    ensures { IfOk result (λ out. AreTintsTo sheet.now 0 out) }
+{
+    let mut out = List::new(alloc);
+    for _ in 0..sheet.plates() {
+        push(&mut out, List::new(alloc))?;
+    }
+    Ok(out)
+}
+
+/// The buffers of the strip before, and the number of rows of its windows.
+#[derive(Drop)]
+struct KeptRoom {
+    tall: u32,
+    room: StripRoom,
+}
+
+/// The buffers for a strip: those of the strip before, if it has as many rows, or new ones.
+fn fit_room(
+    alloc: Global,
+    sheet: &Sheet,
+    across: &Ruler,
+    down: &Ruler,
+    columns: &[Span],
+    row: &Span,
+    kept: Option<KeptRoom>,
+) -> Result<StripRoom, OutOfMemory>
+    requires rulers { AreRulers sheet.now across.now down.now }
+    requires small { AreSmall sheet.now across.now down.now }
+    requires columns { All (IsSomeSpan across.now) columns.now }
+    requires row { IsSomeSpan down.now row.now }
+    requires kept { IfSome kept (IsKept (form_of sheet.now) columns.now) }
+    ensures columns { IfOk result (λ room. columns_in room ≡ columns.now) }
+    ensures room { IfOk result (IsStripRoom (form_of sheet.now) row.now.wide) }
+{
+    if let Some(before) = kept {
+        if before.tall == row.wide {
+            return Ok(before.room);
+        }
+    }
+    StripRoom::new(alloc, sheet, across, down, columns, row)
+}
+
+/// Traps a strip, and appends its new tints to those of the strips above it. Returns the buffers that it used.
+fn trap_row<H: Threads + Sync>(
+    rt: &H,
+    alloc: Global,
+    sheet: &Sheet,
+    across: &Ruler,
+    down: &Ruler,
+    columns: &[Span],
+    row: &Span,
+    at: u32,
+    workers: usize,
+    kept: Option<KeptRoom>,
+    line: &mut [u16],
+    tints: &mut List<Tints>,
+    counts: &mut SheetCounts,
+) -> Result<KeptRoom, OutOfMemory>
+    requires some_workers { 1 ≤ workers }
+    requires rulers { AreRulers sheet.now across.now down.now }
+    requires small { AreSmall sheet.now across.now down.now }
+    requires columns { AreSpans across.now 0 columns.now (width sheet.now) }
+    requires some { All (IsSomeSpan across.now) columns.now }
+    requires row { IsSpan down.now at row.now }
+    requires some_row { IsSomeSpan down.now row.now }
+    requires kept { IfSome kept (IsKept (form_of sheet.now) columns.now) }
+    requires line { length line.old ≡ width sheet.now }
+    requires plates { length tints.old ≡ plates sheet.now }
+    requires room { HasRooms sheet.now (width sheet.now * row.now.core) counts.old }
+    ensures kept { IfOk result (IsKept (form_of sheet.now) columns.now) }
+    ensures line { length line.new ≡ length line.old }
+    ensures tints { OnOk result (HasStrip sheet.now columns.now row.now tints.old tints.new) }
+    ensures counts { OnOk result (AddsArea sheet.now 0 at (width sheet.now) row.now.core
+        counts.old counts.new) }
+{
+    let mut room = fit_room(alloc, sheet, across, down, columns, row, kept)?;
+    trap_strip_in(rt, sheet, across, down, row, at, workers, &mut room, counts);
+    add_strip(alloc, sheet, across, down, row, &room, line, tints)?;
+    let tall = row.wide;
+    Ok(KeptRoom { tall, room })
+}
+
+/// Traps the strips of these rows, from the top down, into planes without tints and counts of nothing.
+fn trap_rows<H: Threads + Sync>(
+    rt: &H,
+    alloc: Global,
+    sheet: &Sheet,
+    across: &Ruler,
+    down: &Ruler,
+    columns: &[Span],
+    rows: &[Span],
+    workers: usize,
+    tints: &mut List<Tints>,
+    counts: &mut SheetCounts,
+) -> Result<(), OutOfMemory>
+    requires some_workers { 1 ≤ workers }
+    requires rulers { AreRulers sheet.now across.now down.now }
+    requires small { AreSmall sheet.now across.now down.now }
+    requires columns { AreSpans across.now 0 columns.now (width sheet.now) }
+    requires rows { AreSpans down.now 0 rows.now (height sheet.now) }
+    requires tints { AreTintsTo sheet.now 0 tints.old }
+    requires counts { AreNone sheet.now counts.old }
+    ensures tints { OnOk result (AreTintsTo sheet.now (height sheet.now) tints.new) }
+    ensures counts { OnOk result (AddsArea sheet.now 0 0 (width sheet.now) (height sheet.now)
+        counts.old counts.new) }
+{
+    let mut line = vec_of(alloc, 0u16, sheet.width() as usize)?;
+    let mut kept = None;
+    let mut at = 0;
+    for row in rows {
+        let room = trap_row(
+            rt, alloc, sheet, across, down, columns, row, at, workers, kept, &mut line, tints,
+            counts,
+        )?;
+        kept = Some(room);
+        at += row.core;
+    }
+    Ok(())
+}
+
+/// Traps a sheet that is cut into these columns and rows.
+fn trap_cut<H: Threads + Sync>(
+    rt: &H,
+    alloc: Global,
+    sheet: &Sheet,
+    across: &Ruler,
+    down: &Ruler,
+    columns: &[Span],
+    rows: &[Span],
+    workers: usize,
+) -> Result<TrappedSheet, OutOfMemory>
+    requires some_workers { 1 ≤ workers }
+    requires rulers { AreRulers sheet.now across.now down.now }
+    requires small { AreSmall sheet.now across.now down.now }
+    requires columns { AreSpans across.now 0 columns.now (width sheet.now) }
+    requires rows { AreSpans down.now 0 rows.now (height sheet.now) }
+    ensures tints { IfOk result (λ trapped. AreTintsTo sheet.now (height sheet.now) trapped.tints) }
+    ensures counts { IfOk result (λ trapped. HasArea sheet.now 0 0 (width sheet.now)
+        (height sheet.now) trapped.counts) }
+{
+    let mut counts = no_sheet_counts(alloc, sheet)?;
+    let mut tints = no_tints(alloc, sheet)?;
+    trap_rows(
+        rt,
+        alloc,
+        sheet,
+        across,
+        down,
+        columns,
+        rows,
+        workers,
+        &mut tints,
+        &mut counts,
+    )?;
+    Ok(TrappedSheet { tints, counts })
+}
+
+/// Traps a sheet of any sides, window by window, by rulers for its columns and rows. The tints, `width * height` for
+/// each plate, row by row from the top, and the counts are those of the undivided sheet, wherever it is cut. It fails
+/// only where memory runs out.
+pub fn trap_sheet<H: Threads + Sync>(
+    rt: &H,
+    alloc: Global,
+    sheet: &Sheet,
+    across: &Ruler,
+    down: &Ruler,
+    workers: usize,
+) -> Result<TrappedSheet, OutOfMemory>
+    requires some_workers { 1 ≤ workers }
+    requires rulers { AreRulers sheet.now across.now down.now }
+    requires small { AreSmall sheet.now across.now down.now }
+    requires across { IsRuler across.now }
+    requires down { IsRuler down.now }
+    ensures count { IfOk result (λ trapped. length trapped.tints ≡ plates sheet.now) }
+    ensures tints { IfOk result (λ trapped. (c : ℕ) → c < plates sheet.now
+        → slice_index_or trapped.tints c [] ≡ new_tints sheet.now c) }
+    ensures counts { IfOk result (λ trapped. IsCounted sheet.now trapped.counts) }
+{
+    let columns = spans_of(alloc, across)?;
+    let rows = spans_of(alloc, down)?;
+    trap_cut(
+        rt,
+        alloc,
+        sheet,
+        across,
+        down,
+        columns.as_slice(),
+        rows.as_slice(),
+        workers,
+    )
+}

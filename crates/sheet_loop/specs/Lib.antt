@@ -1,4 +1,0 @@
-pub mod Rooms
-pub mod Courses
-pub mod Second
-pub mod Whole

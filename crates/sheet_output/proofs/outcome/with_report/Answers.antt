@@ -1,7 +1,0 @@
--- with_report: the planes of a trapped sheet, with the report of what changed.
-use Rattle.std.proofs.Common.{◌∙◌}
-use Rattle.sheet_output.proofs.OutcomeLemmas.{planes_are}
-use Rattle.sheet_output.proofs.outcome.with_report.Goals as goal
-
-pub returns-in-Ok-clause-planes : goal.returns-in-Ok-clause-planes
-returns-in-Ok-clause-planes c = c.in-Ok.ensures ∙ planes_are c.args.sheet.now c.args.trapped.tints c.requires.count c.requires.tints

@@ -1,0 +1,106 @@
+-- The first strip is trapped while the second one is read.
+use Rattle.std.proofs.lemmas.Grind.{common_steps}
+use Rattle.std.proofs.Common.{◌∙◌, length, map, ap, arith}
+use Rattle.sheet_stream.specs.Going.{core_top, gone_on}
+use Rattle.sheet_stream.proofs.AwaitLemmas.{awaits, still_room, waits}
+use Rattle.sheet_stream.proofs.StepLemmas.{trappable}
+use Rattle.sheet_stream.proofs.ReadLemmas.{new_cuttable, reading_stops}
+use Rattle.sheet_stream.specs.declared.strip.CoreRoom.{CoreRoom}
+use Rattle.sheet_stream.proofs.step.trap_first.Goals as goal
+
+pub trap_and_read-requires-clause-trap : goal.trap_and_read-requires-clause-trap
+trap_and_read-requires-clause-trap g c κs within =
+    let bare = c.args.bare.now in
+    let plan = c.args.plan.now in
+    let begun = c.args.plates.now in
+    let row = c.args.row.now in
+    let old = c.args.room.now in
+    let trays = map g.T.Tray.state c.args.trays.now in
+    let ask = c.requires in
+    let way = ask.way in
+    trappable bare plan begun row ask.can ask.row old trays way.course way.none way.at way.empty old.windows ask.room.one
+
+pub trap_and_read-requires-clause-can : goal.trap_and_read-requires-clause-can
+trap_and_read-requires-clause-can g c κs within =
+    let way = c.requires.way in
+    record {
+      can = c.requires.can;
+      headers = c.requires.headers;
+      next = c.requires.next;
+      at_hand = c.requires.room.strip;
+      room = c.requires.room.ahead;
+      there = record { inputs = way.course.inputs; start = way.course.trays; holds = way.at.holds };
+    }
+
+pub change_places-requires : goal.change_places-requires
+change_places-requires g c =
+    let bare = c.args.bare.now in
+    let plan = c.args.plan.now in
+    let begun = c.args.plates.now in
+    let row = c.args.row.now in
+    let next = c.args.next.now in
+    let old = c.args.room.now in
+    let trays = map g.T.Tray.state c.args.trays.now in
+    let ask = c.requires in
+    let way = ask.way in
+    let trays' = map g.T.Tray.state c.trap_and_read.new.trays in
+    let mid = c.trap_and_read.new.room in
+    new_cuttable bare plan begun (gone_on row) next ask.can ask.headers ask.next old.strip ask.room.strip trays trays' mid.ahead way.course.inputs way.course.trays way.at.holds c.in-Ok.ensures.read
+
+pub returns-in-Ok-clause-room : goal.returns-in-Ok-clause-room
+returns-in-Ok-clause-room g c =
+    let ask = c.requires in
+    let did = c.trap_and_read.ensures in
+    let put = c.change_places.ensures in
+    still_room c.args.bare.now c.args.plan.now c.args.plates.now c.args.row.now c.args.next.now ask.can ask.headers ask.row ask.next
+    c.args.room.now c.trap_and_read.new.room c.change_places.new.room ask.room
+    (map g.T.Tray.state c.args.trays.now) (map g.T.Tray.state c.trap_and_read.new.trays) ask.way.course ask.way.none ask.way.at did.trapped c.in-Ok.ensures.read
+    put.strip (put.ahead ∙ did.strip) put.trapped
+    (put.windows ∙ ap (λ (core : CoreRoom). core.windows) did.core) (put.line ∙ ap (λ (core : CoreRoom). length core.line.items) did.core) (put.bytes ∙ ap (λ (core : CoreRoom). length core.bytes.items) did.core) (put.pieces ∙ did.pieces)
+
+pub returns-in-Ok-clause-waiting : goal.returns-in-Ok-clause-waiting
+returns-in-Ok-clause-waiting g c =
+    let ask = c.requires in
+    let did = c.trap_and_read.ensures in
+    let put = c.change_places.ensures in
+    waits c.args.bare.now c.args.plan.now c.args.plates.now c.args.row.now c.args.next.now ask.can ask.headers ask.row ask.next
+    c.args.room.now c.trap_and_read.new.room c.change_places.new.room ask.room
+    (map g.T.Tray.state c.args.trays.now) (map g.T.Tray.state c.trap_and_read.new.trays) ask.way.course ask.way.none ask.way.at did.trapped c.in-Ok.ensures.read
+    put.strip (put.ahead ∙ did.strip) put.trapped
+    (put.line ∙ ap (λ (core : CoreRoom). length core.line.items) did.core) (put.bytes ∙ ap (λ (core : CoreRoom). length core.bytes.items) did.core)
+
+pub returns-in-Ok-clause-goes : goal.returns-in-Ok-clause-goes
+returns-in-Ok-clause-goes g c course none racks stands =
+    let ask = c.requires in
+    let did = c.trap_and_read.ensures in
+    let put = c.change_places.ensures in
+    awaits c.args.bare.now c.args.plan.now c.args.plates.now c.args.row.now c.args.next.now ask.can ask.headers ask.row ask.next
+    c.args.room.now c.trap_and_read.new.room c.change_places.new.room ask.room
+    (map g.T.Tray.state c.args.trays.now) (map g.T.Tray.state c.trap_and_read.new.trays) course none stands.at did.trapped c.in-Ok.ensures.read
+    put.strip (put.ahead ∙ did.strip) put.trapped
+    put.counts racks stands.written
+
+pub returns-in-Err-clause-goes : goal.returns-in-Err-clause-goes
+returns-in-Err-clause-goes g c course none racks stands =
+    let bare = c.args.bare.now in
+    let plan = c.args.plan.now in
+    let begun = c.args.plates.now in
+    let row = c.args.row.now in
+    let next = c.args.next.now in
+    let old = c.args.room.now in
+    let trays = map g.T.Tray.state c.args.trays.now in
+    let ask = c.requires in
+    let trays' = map g.T.Tray.state c.trap_and_read.new.trays in
+    let mid = c.trap_and_read.new.room in
+    record {
+      stops = reading_stops bare plan begun (gone_on row) next ask.can ask.headers ask.next old.strip ask.room.strip trays trays' mid.ahead course.inputs course.trays stands.at.holds c.in-Err.stop c.in-Err.ensures.read;
+      samples = stands.at.holds.samples;
+      between = trays;
+      read = stands.at.holds.read;
+      rows = core_top row;
+      few = (let a = ask.row.span.core in let i = ask.row.span.inside in let t = ask.can.rulers.tall in omega (arith, a, i, t));
+      written = stands.written;
+    }
+
+pub trap_and_read-requires-clause-row : goal.trap_and_read-requires-clause-row
+trap_and_read-requires-clause-row g c = grind (arith, common_steps)

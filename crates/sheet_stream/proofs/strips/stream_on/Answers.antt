@@ -1,0 +1,93 @@
+-- All strips from the first one on, the last of which is put.
+use Rattle.std.proofs.lemmas.Grind.{common_steps}
+use Rattle.std.proofs.Common.{length, map, arith}
+use Rattle.sheet_stream.proofs.StepLemmas.{are_open, counted_on, deep_is, line_long, plates_are, trappable, unwritten, written_on}
+use Rattle.sheet_stream.proofs.StreamLemmas.{ends}
+use Rattle.sheet_stream.proofs.strips.stream_on.Goals as goal
+
+pub put_last-requires-clause-trap : goal.put_last-requires-clause-trap
+put_last-requires-clause-trap g c κs within =
+    let way = c.requires.way in
+    let did = c.in-Ok.ensures in
+    let stands = did.reaches way.course way.none way.stands in
+    trappable c.args.bare.now c.args.plan.now c.args.plates.now c.in-Ok.row c.requires.can did.last.hand c.reach_last.new.room
+    (map g.T.Tray.state c.reach_last.new.trays) way.course way.none stands.at
+    way.empty c.reach_last.new.room.core.windows did.room.other
+
+pub put_last-requires-clause-racks : goal.put_last-requires-clause-racks
+put_last-requires-clause-racks g c κs within =
+    let way = c.requires.way in
+    let did = c.in-Ok.ensures in
+    let stands = did.reaches way.course way.none way.stands in
+    let are = plates_are c.args.bare.now c.args.plan.now c.args.plates.now c.in-Ok.row c.requires.can did.last.hand c.reach_last.new.room
+    (map g.T.Tray.state c.reach_last.new.trays) way.course way.none stands.at in
+    let count = c.requires.headers.count in
+    let enough = c.requires.racks in
+    let same = c.reach_last.auto.racks in
+    omega (arith, are, count, enough, same)
+
+pub put_last-requires-clause-open : goal.put_last-requires-clause-open
+put_last-requires-clause-open g c κs within =
+    let way = c.requires.way in
+    let did = c.in-Ok.ensures in
+    let stands = did.reaches way.course way.none way.stands in
+    are_open c.args.bare.now c.args.plan.now c.args.plates.now c.in-Ok.row c.requires.can did.last.hand c.reach_last.new.room
+    (map g.T.Tray.state c.reach_last.new.trays) way.course way.none stands.at
+    (map g.R.Rack.state c.reach_last.new.racks) stands.written
+
+pub put_last-requires-clause-line : goal.put_last-requires-clause-line
+put_last-requires-clause-line g c κs within =
+    let way = c.requires.way in
+    let did = c.in-Ok.ensures in
+    let stands = did.reaches way.course way.none way.stands in
+    line_long c.args.bare.now c.args.plan.now c.args.plates.now c.in-Ok.row c.requires.can did.last.hand c.reach_last.new.room
+    (map g.T.Tray.state c.reach_last.new.trays) way.course way.none stands.at
+    (length c.reach_last.new.room.core.line.items) did.room.line
+
+pub put_last-requires-clause-maxval : goal.put_last-requires-clause-maxval
+put_last-requires-clause-maxval g c κs within =
+    let way = c.requires.way in
+    let did = c.in-Ok.ensures in
+    let stands = did.reaches way.course way.none way.stands in
+    deep_is c.args.bare.now c.args.plan.now c.args.plates.now c.in-Ok.row c.requires.can did.last.hand c.reach_last.new.room
+    (map g.T.Tray.state c.reach_last.new.trays) way.course way.none stands.at
+
+pub returns-in-Ok-put_last : goal.returns-in-Ok-put_last
+returns-in-Ok-put_last g c course none stands =
+    let bare = c.args.bare.now in
+    let plan = c.args.plan.now in
+    let begun = c.args.plates.now in
+    let row = c.in-Ok.row in
+    let room = c.reach_last.new.room in
+    let trays = map g.T.Tray.state c.reach_last.new.trays in
+    let racks = map g.R.Rack.state c.reach_last.new.racks in
+    let ask = c.requires in
+    let did = c.in-Ok.ensures in
+    let hand = did.last.hand in
+    let now = did.reaches course none stands in
+    let racks' = map g.R.Rack.state c.put_last.new.racks in
+    ends course bare plan begun none c.put_last.new.room.counts row trays racks racks' room ask.can ask.headers hand did.last.last now
+    (written_on bare plan begun row ask.can hand room trays course none now.at racks now.written racks' c.in-Ok-put_last.ensures.written)
+    (counted_on bare plan begun row ask.can hand room trays course none now.at room.core.windows c.put_last.new.room.core.windows c.put_last.new.room.counts c.put_last.ensures.trapped)
+
+pub returns-in-Err-put_last : goal.returns-in-Err-put_last
+returns-in-Err-put_last g c course none stands =
+    let bare = c.args.bare.now in
+    let plan = c.args.plan.now in
+    let begun = c.args.plates.now in
+    let row = c.in-Ok.row in
+    let room = c.reach_last.new.room in
+    let trays = map g.T.Tray.state c.reach_last.new.trays in
+    let racks = map g.R.Rack.state c.reach_last.new.racks in
+    let ask = c.requires in
+    let did = c.in-Ok.ensures in
+    let hand = did.last.hand in
+    let now = did.reaches course none stands in
+    let racks' = map g.R.Rack.state c.put_last.new.racks in
+    unwritten bare plan begun row ask.can hand room trays course none now.at racks now.written racks' trays now.at.holds.samples now.at.holds.read (λ one begins. begins) c.in-Err-put_last.refusal c.in-Err-put_last.ensures.written
+
+pub returns-in-Err : goal.returns-in-Err
+returns-in-Err g c course none stands = c.in-Err.ensures.reaches course none stands
+
+pub reach_last-requires-clause-first : goal.reach_last-requires-clause-first
+reach_last-requires-clause-first g c = grind (arith, common_steps)

@@ -1,0 +1,109 @@
+// The core of the strip before is written, and then the next strip is read.
+
+ghost use Rattle.std.specs.Prelude.{◌≡◌, ◌≤◌, length, map};
+ghost use Rattle.page_model.specs.Page.{plates};
+ghost use Rattle.sheet_stream.specs.Reading.{CanReadRow};
+ghost use Rattle.sheet_stream.specs.Waiting.{IsWaiting, PlatesOpen, WritesAndReads};
+ghost use Rattle.sheet_stream.specs.Cores.{WritesCore};
+ghost use Rattle.sheet_stream.specs.OnSheet.{strip_cut};
+
+use crate::ahead::read_row;
+use crate::parts::StripPlan;
+use crate::rows::Progress;
+use crate::stop::StreamError;
+use crate::strip::{CoreRoom, write_row};
+use lists::list::List;
+use outside::rack::Rack;
+use outside::tray::Tray;
+use page_model::parts::PageParts;
+use pgm_plates::rows::OpenPlate;
+use refusals::refusal::Refusal;
+use sheet_geometry::spans::Span;
+use std::alloc::Global;
+use sheet_geometry::window_sheet::Sheet;
+
+/// Writes the rows of the core of a strip that was trapped and not written yet, plate k by rack k. It allocates
+/// nothing.
+///
+/// Where a call of a rack fails, it stops with `Write` and the plate's number.
+pub fn write_waiting<R: Rack>(
+    alloc: Global,
+    racks: &mut [R],
+    plan: &StripPlan,
+    row: &Span,
+    strip: &mut PageParts,
+    core: &mut CoreRoom,
+) -> Result<(), Refusal>
+    requires racks { plates strip.old ≤ length racks.old }
+    requires opened { PlatesOpen plan.now strip.old (map R.state racks.old) }
+    requires waiting { IsWaiting plan.now row.now strip.old core.old }
+    ensures strip { strip.new ≡ strip.old }
+    ensures windows { core.new.windows ≡ core.old.windows }
+    ensures line { length core.new.line.items ≡ length core.old.line.items }
+    ensures bytes { length core.new.bytes.items ≡ length core.old.bytes.items }
+    ensures written { WritesCore (plates strip.old) plan.now.header strip.old
+        (strip_cut plan.now.across plan.now.down row.now) (map R.state racks.old)
+        (map R.state racks.new) result }
+{
+    let sheet = Sheet::of(std::mem::replace(strip, no_parts(alloc)));
+    let result = write_row(racks, plan, row, &sheet, core);
+    *strip = sheet.into_parts();
+    result
+}
+
+/// Writes the core of the strip that was trapped and not written yet, plate k by rack k, and then reads the next strip
+/// into its place, plate k by tray k. It allocates nothing.
+///
+/// It stops where a call of a rack fails, with nothing read, and at the first plate that has a fault now or can't be
+/// read.
+pub fn write_and_read<T: Tray, R: Rack>(
+    alloc: Global,
+    trays: &mut [T],
+    racks: &mut [R],
+    bare: &PageParts,
+    plan: &StripPlan,
+    plates: &[OpenPlate],
+    progress: &Progress,
+    last: &Span,
+    next: &Span,
+    strip: &PageParts,
+    ahead: &mut PageParts,
+    core: &mut CoreRoom,
+    bytes: &mut Vec<u8>,
+) -> Result<(), StreamError>
+    requires opened { PlatesOpen plan.now ahead.old (map R.state racks.old) }
+    requires waiting { IsWaiting plan.now last.now ahead.old core.old }
+    requires can { CanReadRow bare.now plan.now plates.now progress.now next.now
+        (map T.state trays.old) strip.now ahead.old }
+    requires trays { length plates.now ≤ length trays.old }
+    requires count { length ahead.old.planes ≡ length plates.now }
+    requires racks { length plates.now ≤ length racks.old }
+    requires bytes { 2 ≤ length bytes.old.items }
+    ensures windows { core.new.windows ≡ core.old.windows }
+    ensures line { length core.new.line.items ≡ length core.old.line.items }
+    ensures spelled { length core.new.bytes.items ≡ length core.old.bytes.items }
+    ensures bytes { length bytes.new.items ≡ length bytes.old.items }
+    ensures does { WritesAndReads bare.now plan.now plates.now progress.now last.now next.now
+        strip.now ahead.old ahead.new (map T.state trays.old) (map T.state trays.new)
+        (map R.state racks.old) (map R.state racks.new) result }
+{
+    match write_waiting(alloc, racks, plan, last, ahead, core) {
+        Ok(()) => match read_row(
+            alloc, trays, bare, plan, plates, progress, next, strip, ahead, bytes,
+        ) {
+            Ok(()) => Ok(()),
+            Err(stop) => Err(StreamError::Unread(stop)),
+        },
+        Err(refusal) => Err(StreamError::Unwritten(refusal)),
+    }
+}
+
+/// No plates, as a placeholder for a strip. It allocates nothing.
+pub fn no_parts(alloc: Global) -> PageParts {
+    PageParts {
+        resolution: 0,
+        planes: List::new(alloc),
+        inks: List::new(alloc),
+        zones: List::new(alloc),
+    }
+}

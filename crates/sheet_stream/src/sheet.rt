@@ -1,0 +1,156 @@
+// A sheet whose plates are read once more, and written strip by strip.
+
+ghost use Rattle.std.specs.Prelude.{◌≡◌, ◌<◌, ◌≤◌, ℕ, IsTrue, length, map};
+ghost use Rattle.page_model.specs.Page.{plates};
+ghost use Rattle.sheet_stream.specs.Courses.{IsStarted};
+ghost use Rattle.sheet_stream.specs.Strips.{CanStream};
+ghost use Rattle.sheet_stream.specs.Rooms.{IsStreamRoom};
+ghost use Rattle.plate_rows.specs.Racks.{rack_at};
+ghost use Rattle.plate_rows.specs.Trays.{open_at, tray_at};
+ghost use Rattle.sheet_stream.specs.Second.{CanEnd, EndsBoth, EndsCourse, IsBegun, StreamsSheet, WritesBegun, course_of, sheet_header};
+ghost use Rattle.sheet_stream.specs.RowReading.{HaveHeader};
+ghost use Rattle.sheet_engine.specs.Works.{AreNone};
+ghost use Rattle.page_model.specs.Limits.{most_plates};
+
+use crate::room::StreamRoom;
+use crate::strips::stream_strips;
+use outside::rack::Rack;
+use outside::tray::Tray;
+use page_model::bounds::MOST_PLATES;
+use page_model::parts::PageParts;
+use pgm_plates::rows::OpenPlate;
+use plate_rows::images::{begin_images, end_images};
+use plate_rows::rereading::{begin_plates, end_plates};
+use std::alloc::Global;
+use std::convert::AsStr;
+use std::thread::Threads;
+use crate::parts::StripPlan;
+use crate::stop::StreamError;
+
+/// Reads the plates of a sheet that was checked once more, plate k by tray k, and traps it strip by strip; the new
+/// plates are written to the files of their names, plate k by rack k. It allocates nothing.
+///
+/// It stops at the first plate that has another header or a fault now, or can't be read, and where a call of a rack
+/// fails. No file is created before each plate has the sheet's header again. Where it stops, each file that was created
+/// has a prefix of what was to be written.
+pub fn stream_sheet<H: Threads + Sync, T: Tray, R: Rack, S: AsStr>(
+    rt: &H,
+    alloc: Global,
+    trays: &mut [T],
+    racks: &mut [R],
+    inputs: &[S],
+    outputs: &[S],
+    bare: &PageParts,
+    plan: &StripPlan,
+    room: &mut StreamRoom,
+) -> Result<(), StreamError>
+    requires can { CanStream bare.now plan.now }
+    requires header { plan.now.header ≡ sheet_header bare.now }
+    requires inputs { length inputs.now ≡ plates bare.now }
+    requires outputs { length outputs.now ≡ plates bare.now }
+    requires trays { plates bare.now ≤ length trays.old }
+    requires racks { plates bare.now ≤ length racks.old }
+    requires room { IsStreamRoom bare.now plan.now room.old }
+    requires counts { AreNone bare.now room.old.counts }
+    ensures { let course = course_of (map S.text inputs.now) (map S.text outputs.now)
+        (map T.state trays.old) (map R.state racks.old) in
+        StreamsSheet course bare.now plan.now.header room.new.counts (map T.state trays.new)
+        (map R.state racks.new) result }
+{
+    let none = OpenPlate {
+        header: plan.header,
+        size: 0,
+    };
+    let mut plates = [none; MOST_PLATES];
+    let headers = [plan.header; MOST_PLATES];
+    match begin_plates(trays, inputs, &headers, &mut plates) {
+        Ok(()) => {
+            let begun = &plates[..inputs.len()];
+            write_sheet(rt, alloc, trays, racks, outputs, bare, plan, begun, room)
+        }
+        Err(stop) => Err(StreamError::Unread(stop)),
+    }
+}
+
+// Does the same with the plates begun.
+fn write_sheet<H: Threads + Sync, T: Tray, R: Rack, S: AsStr>(
+    rt: &H,
+    alloc: Global,
+    trays: &mut [T],
+    racks: &mut [R],
+    outputs: &[S],
+    bare: &PageParts,
+    plan: &StripPlan,
+    plates: &[OpenPlate],
+    room: &mut StreamRoom,
+) -> Result<(), StreamError>
+    requires can { CanStream bare.now plan.now }
+    requires headers { HaveHeader bare.now plates.now }
+    requires outputs { length outputs.now ≡ length plates.now }
+    requires trays { length plates.now ≤ length trays.old }
+    requires racks { length plates.now ≤ length racks.old }
+    requires room { IsStreamRoom bare.now plan.now room.old }
+    requires counts { AreNone bare.now room.old.counts }
+    requires read { IsBegun plates.now (map T.state trays.old) }
+    ensures { WritesBegun (map S.text outputs.now) bare.now plan.now plates.now room.new.counts
+        (map T.state trays.old) (map T.state trays.new) (map R.state racks.old)
+        (map R.state racks.new) result }
+{
+    match begin_images(racks, outputs, plan.header) {
+        Ok(()) => write_begun(rt, alloc, trays, racks, bare, plan, plates, room),
+        Err(refusal) => Err(StreamError::Unwritten(refusal)),
+    }
+}
+
+// Does the same with the plates and the files begun.
+fn write_begun<H: Threads + Sync, T: Tray, R: Rack>(
+    rt: &H,
+    alloc: Global,
+    trays: &mut [T],
+    racks: &mut [R],
+    bare: &PageParts,
+    plan: &StripPlan,
+    plates: &[OpenPlate],
+    room: &mut StreamRoom,
+) -> Result<(), StreamError>
+    requires can { CanStream bare.now plan.now }
+    requires headers { HaveHeader bare.now plates.now }
+    requires trays { length plates.now ≤ length trays.old }
+    requires racks { length plates.now ≤ length racks.old }
+    requires room { IsStreamRoom bare.now plan.now room.old }
+    requires counts { AreNone bare.now room.old.counts }
+    requires started { IsStarted bare.now plan.now plates.now (map T.state trays.old)
+        (map R.state racks.old) }
+    ensures { EndsCourse bare.now plan.now plates.now room.new.counts (map T.state trays.old)
+        (map T.state trays.new) (map R.state racks.old) (map R.state racks.new) result }
+{
+    match stream_strips(rt, alloc, trays, racks, bare, plan, plates, room) {
+        Ok(()) => end_sheet(trays, racks, plates),
+        Err(stop) => Err(stop),
+    }
+}
+
+// Checks that nothing stands after the plates, and finishes the files.
+fn end_sheet<T: Tray, R: Rack>(
+    trays: &mut [T],
+    racks: &mut [R],
+    plates: &[OpenPlate],
+) -> Result<(), StreamError>
+    requires few { length plates.now ≤ most_plates }
+    requires trays { length plates.now ≤ length trays.old }
+    requires racks { length plates.now ≤ length racks.old }
+    requires read { (k : ℕ) → k < length plates.now → CanEnd (open_at plates.now k)
+        (tray_at (map T.state trays.old) k) }
+    requires open { (k : ℕ) → k < length plates.now
+        → IsTrue (rack_at (map R.state racks.old) k).is_open }
+    ensures { EndsBoth plates.now (map T.state trays.old) (map T.state trays.new)
+        (map R.state racks.old) (map R.state racks.new) result }
+{
+    match end_plates(trays, plates) {
+        Ok(()) => match end_images(racks, plates.len()) {
+            Ok(()) => Ok(()),
+            Err(refusal) => Err(StreamError::Unwritten(refusal)),
+        },
+        Err(stop) => Err(StreamError::Unread(stop)),
+    }
+}

@@ -1,6 +1,0 @@
--- parts_law: a sheet may be made of whatever a page may be made of.
-use Rattle.sheet_windows.proofs.Pages.{parts_of_sheet}
-use Rattle.sheet_windows.proofs.laws.parts_law.Goals as goal
-
-pub returns : goal.returns
-returns c = λ page is. parts_of_sheet page is

@@ -1,9 +1,0 @@
-pub mod RowLemmas
-pub mod SheetTints
-pub mod OnSheetLemmas
-pub mod ReadyLemmas
-pub mod GoingLemmas
-pub mod RowReads
-pub mod OnSheets
-pub mod AtHand
-pub mod ReadLemmas

@@ -1,5 +1,0 @@
--- The closure of trap_while: what it ensures is what trap_row does.
-use Rattle.strip_steps.proofs.ahead.fn.trap_while.join_mut.Goals as goal
-
-pub returns : goal.returns
-returns g c = c.trap_row.ensures

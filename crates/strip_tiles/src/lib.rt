@@ -1,8 +1,0 @@
-//! A strip of a sheet of any sides trapped tile by tile: each window as a page of its own, with the counts of its
-//! core added to the sheet's.
-#![tactic(auto)]
-
-pub mod counting;
-pub mod room;
-pub mod rows;
-pub mod tints;

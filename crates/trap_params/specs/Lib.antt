@@ -1,4 +1,0 @@
-pub mod Applied
-pub mod Fields
-pub mod Limits
-pub mod Settings

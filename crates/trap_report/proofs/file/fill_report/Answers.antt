@@ -1,0 +1,7 @@
+-- fill_report: writes all of the open file, and finishes it.
+use Rattle.outside.proofs.Steps.{written_then_finished}
+use Rattle.trap_report.specs.Report.{report_of}
+use Rattle.trap_report.proofs.file.fill_report.Goals as goal
+
+pub returns-in-Ok : goal.returns-in-Ok
+returns-in-Ok g c = written_then_finished (report_of c.args.sheet.now c.args.counts.now) (g.R.Rack.state c.args.rack.now) (g.R.Rack.state c.write_lines.new.rack) (g.R.Rack.state c.finish.new.self) _ c.finish.result c.in-Ok.ensures c.finish.ensures

@@ -1,0 +1,21 @@
+-- write_tail: writes all lines after those of the zones.
+use Rattle.std.proofs.Common.{◌≡◌, ◌++◌, ◌∙◌, codes}
+use Rattle.outside.proofs.Steps.{writes_as, writes_stopped, writes_then}
+use Rattle.page_model.specs.Page.{plates}
+use Rattle.refusals.specs.Lines.{line}
+use Rattle.trap_report.specs.Report.{edges_line, plate_lines}
+use Rattle.trap_report.proofs.file.write_tail.Goals as goal
+
+pub returns-in-Ok : goal.returns-in-Ok
+returns-in-Ok g c =
+    let sheet = c.args.sheet.now in
+    let counts = c.args.counts.now in
+    let text : c.as_slice.result.now ≡ edges_line counts.edges = c.as_slice.ensures ∙ c.edges_of-edges.ensures in
+    writes_then (edges_line counts.edges) (plate_lines sheet counts (plates sheet) ++ line (codes "end")) (g.R.Rack.state c.args.rack.now) (g.R.Rack.state c.write_on.new.rack) (g.R.Rack.state c.write_last.new.rack) _ c.write_last.result (writes_as c.as_slice.result.now (edges_line counts.edges) text _ _ _ c.in-Ok.ensures) c.write_last.ensures
+
+pub returns-in-Err : goal.returns-in-Err
+returns-in-Err g c =
+    let sheet = c.args.sheet.now in
+    let counts = c.args.counts.now in
+    let text : c.as_slice.result.now ≡ edges_line counts.edges = c.as_slice.ensures ∙ c.edges_of-edges.ensures in
+    writes_stopped (edges_line counts.edges) (plate_lines sheet counts (plates sheet) ++ line (codes "end")) (g.R.Rack.state c.args.rack.now) (g.R.Rack.state c.write_on.new.rack) _ _ (writes_as c.as_slice.result.now (edges_line counts.edges) text _ _ _ c.in-Err.ensures)

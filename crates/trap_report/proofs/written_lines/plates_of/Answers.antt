@@ -1,0 +1,10 @@
+-- plates_of: goals that the search finds slowly.
+use Rattle.std.proofs.lemmas.Grind.{common_steps}
+use Rattle.std.proofs.Common.{arith}
+use Rattle.trap_report.proofs.written_lines.plates_of.Goals as goal
+
+pub push-requires-3 : goal.push-requires-3
+push-requires-3 c = grind (arith, common_steps)
+
+pub push_number-requires-2 : goal.push_number-requires-2
+push_number-requires-2 c = grind (arith, common_steps)

@@ -1,2 +1,0 @@
-pub mod PageLemmas
-mod WorkedWords

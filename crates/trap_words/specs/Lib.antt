@@ -1,5 +1,0 @@
-pub mod Options
-pub mod PageApp
-pub mod Plates
-pub mod Words
-pub mod Held

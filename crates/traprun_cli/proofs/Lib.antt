@@ -1,0 +1,14 @@
+pub mod PrefixLemmas
+pub mod ImageVerdictLemmas
+pub mod RunVerdictLemmas
+pub mod TrailingLemmas
+pub mod SomeImageLemmas
+pub mod SomeRunLemmas
+pub mod JobLemmas
+pub mod ImageLemmas
+pub mod GatherLemmas
+pub mod OpenLemmas
+pub mod PutLemmas
+pub mod PageLemmas
+pub mod RunLemmas
+pub mod ClauseLemmas

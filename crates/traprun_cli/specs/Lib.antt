@@ -1,0 +1,13 @@
+pub mod Stops
+pub mod Images
+pub mod Pages
+pub mod RunVerdicts
+pub mod InHand
+pub mod Reading
+pub mod Words
+pub mod Opened
+pub mod Gathering
+pub mod Text
+pub mod Paging
+pub mod Endings
+pub mod Clauses

@@ -1,0 +1,114 @@
+ghost use Rattle.std.specs.Prelude.{◌≡◌, Ok};
+ghost use Rattle.job_reader.specs.InRange.{IsJob};
+ghost use Rattle.job_pages.specs.Runs.{HasPage, page_job_of};
+ghost use Rattle.traprun_cli.specs.Gathering.{GathersPage, OpensJob, job_stop as job_stop_spec};
+ghost use Rattle.traprun_cli.specs.Opened.{IsOpenJob, IsWithin, order_in};
+ghost use Rattle.traprun_cli.specs.Words.{sources_of};
+
+use crate::images::read_images;
+use crate::job::read_run_job;
+use crate::words::TraprunArgs;
+use job_pages::many::ManyPages;
+use job_reader::job::Job;
+use lists::names::NameList;
+use outside::tray::Tray;
+use page_files::assemble::assemble_planes;
+use page_model::page::Page;
+use plain_words::files::{plate_inputs, plate_names};
+use ps_tokens::faults::JobRefusal;
+use refusals::refusal::Refusal;
+use std::alloc::Global;
+use crate::stop::{TraprunError, stop_at};
+
+/// A run whose job was read: its arguments, the names of its plates' colorants and their files, and its job.
+#[derive(Drop)]
+pub struct OpenJob<'a> {
+    pub order: &'a TraprunArgs<'a>,
+    pub names: NameList,
+    pub inputs: Vec<&'a str>,
+    pub job: ManyPages,
+}
+
+/// Reads the job of a run. Memory for the names of its plates is allocated first.
+pub fn open_job<'a, T: Tray>(
+    alloc: Global,
+    order: &'a TraprunArgs<'a>,
+    tray: &mut T,
+) -> Result<OpenJob<'a>, TraprunError>
+    requires { IsWithin order.now }
+    ensures { OpensJob order.now (T.state tray.old) (T.state tray.new) result }
+{
+    let (names, inputs) = match (
+        plate_names(alloc, order.plates),
+        plate_inputs(alloc, order.plates),
+    ) {
+        (Ok(names), Ok(inputs)) => (names, inputs),
+        _ => return Err(TraprunError::Whole(Refusal::Memory)),
+    };
+    match read_run_job(alloc, tray, order.job) {
+        Ok(job) => Ok(OpenJob {
+            order,
+            names,
+            inputs,
+            job,
+        }),
+        Err(stop) => Err(stop),
+    }
+}
+
+/// Reads the page of that number, counted from 0: its job, and the image of each plate; and makes a page of them.
+///
+/// It stops at the first refusal: the job's fault, a read that fails, a plate whose file has no image for the page or a
+/// fault, a plate without details, a fault of the page, or out of memory. No file is begun after the one that is
+/// refused.
+pub fn gather_page<T: Tray>(
+    alloc: Global,
+    opened: &OpenJob<'_>,
+    page: u32,
+    tray: &mut T,
+) -> Result<Page, TraprunError>
+    requires opened { IsOpenJob opened.now }
+    requires page { HasPage opened.now.job page }
+    ensures { let order = order_in opened.now.order.now in
+        GathersPage (sources_of order) opened.now.job page (T.state tray.old) (T.state tray.new)
+        result }
+{
+    match opened.job.job(alloc, page) {
+        Ok(job) => gather_images(alloc, job, opened, page, tray),
+        Err(refusal) => Err(job_stop(page, refusal)),
+    }
+}
+
+// Adds the page number to a refusal of its job. Out of memory is reported without one.
+fn job_stop(page: u32, refusal: JobRefusal) -> TraprunError
+    ensures { result ≡ job_stop_spec page refusal }
+{
+    match refusal {
+        JobRefusal::Fault(fault) => TraprunError::AtPage(page, Refusal::Job(fault)),
+        JobRefusal::OutOfMemory => TraprunError::Whole(Refusal::Memory),
+    }
+}
+
+// Reads the images of the page after its job, and makes a page of both.
+fn gather_images<T: Tray>(
+    alloc: Global,
+    job: Job,
+    opened: &OpenJob<'_>,
+    page: u32,
+    tray: &mut T,
+) -> Result<Page, TraprunError>
+    requires opened { IsOpenJob opened.now }
+    requires job { IsJob job }
+    requires given { page_job_of opened.now.job page ≡ Ok job }
+    ensures { let order = order_in opened.now.order.now in
+        GathersPage (sources_of order) opened.now.job page (T.state tray.old) (T.state tray.new)
+        result }
+{
+    match read_images(alloc, tray, page, opened.inputs.as_slice()) {
+        Ok(planes) => match assemble_planes(alloc, job, planes, &opened.names) {
+            Ok(made) => Ok(made),
+            Err(refusal) => Err(stop_at(page, refusal)),
+        },
+        Err(stop) => Err(stop),
+    }
+}

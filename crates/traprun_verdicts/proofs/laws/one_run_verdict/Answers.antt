@@ -1,6 +1,0 @@
--- one_run_verdict: the bytes of a run's files have one verdict at most.
-use Rattle.traprun_verdicts.proofs.RunLemmas.{one_run_verdict}
-use Rattle.traprun_verdicts.proofs.laws.one_run_verdict.Goals as goal
-
-pub returns : goal.returns
-returns c = one_run_verdict

@@ -1,4 +1,0 @@
-pub mod Stops
-pub mod Images
-pub mod Pages
-pub mod RunVerdicts

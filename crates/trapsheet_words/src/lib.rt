@@ -1,4 +1,0 @@
-//! The words of the program `trapsheet`.
-#![tactic(auto)]
-
-pub mod words;

@@ -1,3 +1,0 @@
-pub mod VerdictLemmas
-pub mod SomeLemmas
-pub mod LocalityLemmas

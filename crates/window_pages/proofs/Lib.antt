@@ -1,3 +1,0 @@
-mod Covering
-pub mod FormLemmas
-mod Showing

@@ -1,7 +1,0 @@
--- height: goals that the search finds slowly.
-use Rattle.std.proofs.lemmas.Grind.{common_steps}
-use Rattle.std.proofs.Common.{arith}
-use Rattle.window_pages.proofs.sheet.Sheet.height.Goals as goal
-
-pub returns-clause-valid : goal.returns-clause-valid
-returns-clause-valid c = grind (arith, common_steps)

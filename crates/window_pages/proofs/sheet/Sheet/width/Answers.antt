@@ -1,7 +1,0 @@
--- width: goals that the search finds slowly.
-use Rattle.std.proofs.lemmas.Grind.{common_steps}
-use Rattle.std.proofs.Common.{arith}
-use Rattle.window_pages.proofs.sheet.Sheet.width.Goals as goal
-
-pub returns-clause-valid : goal.returns-clause-valid
-returns-clause-valid c = grind (arith, common_steps)

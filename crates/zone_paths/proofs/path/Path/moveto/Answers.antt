@@ -1,6 +1,0 @@
--- Path::moveto: begins a subpath with one vertex, in ten-thousandths of a point.
-use Rattle.zone_paths.proofs.Drawings.{begun_at-drawing}
-use Rattle.zone_paths.proofs.path.Path.moveto.Goals as goal
-
-pub invariant_of-self : goal.invariant_of-self
-invariant_of-self c = begun_at-drawing _ _ _ c.self.invariant.path c.in-Ok.ensures
