@@ -140,7 +140,7 @@ module _ (k : Shape) (ok : IsShape k) (words : List ℕ) (wide : length words �
     pub sits_piece : (i n : ℕ) → i < k.pieces → piece_word words i ≤ 1 → (v : View) → holds i v ≡ 0 → Sits k key words v → Sits k key (after_piece i n) v
     sits_piece i n l free v out t = record {
       page = t.page;
-      hand = hand_piece i n l v.filled v.held t.hand out;
+      hand = hand_piece i n l v.filled v.stored t.hand out;
       known = λ j m. let d = t.known j m in let ne : j ≢ i = (λ e. omega (arith, d.1, free, ap (piece_word words) e)) in (d.0, piece_else i j n ne ∙ d.1);
       unshared = t.unshared;
     }
@@ -148,7 +148,7 @@ module _ (k : Shape) (ok : IsShape k) (words : List ℕ) (wide : length words �
     pub sits_cell : (i o n : ℕ) → i < k.pieces → o < k.size i → (v : View) → holds i v ≡ 0 → Sits k key words v → Sits k key (after_cell (k.start i + o) n) v
     sits_cell i o n l p v out t = record {
       page = t.page;
-      hand = hand_cell i o n l p v.filled v.held t.hand out;
+      hand = hand_cell i o n l p v.filled v.stored t.hand out;
       known = λ j m. let d = t.known j m in (d.0, piece_stays j (k.start i + o) n d.0 ∙ d.1);
       unshared = t.unshared;
     }

@@ -12,8 +12,8 @@ pub record Carried (key : TableKey) (v : View) (i piece next : ℕ) : Type 0 whe
   pub in_range : i < (shape_of key).pieces
   pub word : next ≡ word_of (shape_of key) i v.filled
 
-pub carried : (key : TableKey) (v : View) (i piece next : ℕ) → v.held ≡ Some i → v.table_key ≡ Some key → Carries v piece next → Carried key v i piece next
-carried key v i piece next held page h =
-    let parts : (piece ≡ i) × MatchOption v.table_key (Unit {0}) (λ k. (i < (shape_of k).pieces) × (next ≡ word_of (shape_of k) i v.filled)) = rw held at h in
+pub carried : (key : TableKey) (v : View) (i piece next : ℕ) → v.stored ≡ Some i → v.table_key ≡ Some key → Carries v piece next → Carried key v i piece next
+carried key v i piece next stored page h =
+    let parts : (piece ≡ i) × MatchOption v.table_key (Unit {0}) (λ k. (i < (shape_of k).pieces) × (next ≡ word_of (shape_of k) i v.filled)) = rw stored at h in
     let more : (i < (shape_of key).pieces) × (next ≡ word_of (shape_of key) i v.filled) = rw page at parts.1 in
     record { same = parts.0; in_range = more.0; word = more.1 }

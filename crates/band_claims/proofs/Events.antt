@@ -17,7 +17,7 @@ use Rattle.band_claims.specs.Kinds.{Kind, looks, wins, loses, reads, puts, finis
 use Rattle.band_claims.specs.Rule.{piece_word}
 use Rattle.band_claims.specs.Views.{put}
 use Rattle.band_claims.proofs.Boards.{word_state, none_lack, none_left, inside_at}
-use Rattle.band_claims.proofs.Keeps.{after_look, after_loss, after_read, wins as keeps_wins, stores, ends, held_by, splits as keeps_splits, joins as keeps_joins}
+use Rattle.band_claims.proofs.Keeps.{after_look, after_loss, after_read, wins as keeps_wins, stores, ends, stored_by, splits as keeps_splits, joins as keeps_joins}
 use Rattle.band_claims.proofs.Kept.{Kept}
 use Rattle.atomic_table.proofs.Lists.{set_else}
 
@@ -47,7 +47,7 @@ module _ (k : Shape) (ok : IsShape k) (defined : ℕ → ℕ) (some_value : (j :
       let v = h.0 in let m = h.1 in let here : k.start m.piece + v.filled ≡ j = sym m.next in
       let right : defined (k.start m.piece + v.filled) ≡ value = ap defined here ∙ sym m.right in
       let P : ℕ → ℕ → Type 0 = λ c x. Kept k defined key record { words = set s.words (k.pieces + c) x; homes = s.homes; views = set s.views id (put v) } in
-      subst (Kept k defined key) (sym h.2) (subst (λ (c : ℕ). P c value) here (subst (λ (x : ℕ). P (k.start m.piece + v.filled) x) right (stores k ok defined some_value key s r id m.piece v m.sees m.holding m.room)))
+      subst (Kept k defined key) (sym h.2) (subst (λ (c : ℕ). P c value) here (subst (λ (x : ℕ). P (k.start m.piece + v.filled) x) right (stores k ok defined some_value key s r id m.piece v m.sees m.holding m.workspace)))
   keeps_rule s t (finishes id i) r h = subst (Kept k defined key) (sym h.2) (ends k ok defined some_value key s r id i h.0 h.1.sees h.1.holding h.1.full)
   keeps_rule s t (splits id works) r h = subst (Kept k defined key) (sym h.3) (keeps_splits k ok defined some_value key id works h.0 s r h.1)
   keeps_rule s t (joins id other) r h =
@@ -79,21 +79,21 @@ module _ (k : Shape) (ok : IsShape k) (defined : ℕ → ℕ) (some_value : (j :
   does s t (loses id i) r h = ap (λ (z : St). z.words) h.3
   does s t (reads id j) r h = ap (λ (z : St). z.words) h.2
   does s t (puts id j value) r h =
-      let v = h.0 in let m = h.1 in let held = held_by k ok defined some_value key s r id m.piece v m.sees m.holding in
-      let inside = inside_at k ok s.words r.wide m.piece v.filled held.piece m.room in
+      let v = h.0 in let m = h.1 in let stored = stored_by k ok defined some_value key s r id m.piece v m.sees m.holding in
+      let inside = inside_at k ok s.words r.wide m.piece v.filled stored.piece m.workspace in
       let here : k.start m.piece + v.filled ≡ j = sym m.next in
-      let empty : cell_at (board_of k s.words) (k.start m.piece + v.filled) ≡ 0 = cell_is k s.words (k.start m.piece + v.filled) inside ∙ held.back v.filled (omega arith) m.room in record {
+      let empty : cell_at (board_of k s.words) (k.start m.piece + v.filled) ≡ 0 = cell_is k s.words (k.start m.piece + v.filled) inside ∙ stored.back v.filled (omega arith) m.workspace in record {
         in_range = subst (λ (c : ℕ). c < k.cells) here inside;
         fits = m.right;
         may = subst (λ (c : ℕ). ((cell_at (board_of k s.words) c == 0) && in_hand k (board_of k s.words) c) ≡ true) here
-            (and_from (cell_at (board_of k s.words) (k.start m.piece + v.filled) == 0) (in_hand k (board_of k s.words) (k.start m.piece + v.filled)) (eq-eqb _ 0 empty) (in_hand_on s m.piece v.filled r held.piece m.room held.is_claimed));
+            (and_from (cell_at (board_of k s.words) (k.start m.piece + v.filled) == 0) (in_hand k (board_of k s.words) (k.start m.piece + v.filled)) (eq-eqb _ 0 empty) (in_hand_on s m.piece v.filled r stored.piece m.workspace stored.is_claimed));
         change = ap (λ (z : St). z.words) h.2;
       }
   does s t (finishes id i) r h =
-      let v = h.0 in let m = h.1 in let held = held_by k ok defined some_value key s r id i v m.sees m.holding in record {
-        in_range = held.piece;
+      let v = h.0 in let m = h.1 in let stored = stored_by k ok defined some_value key s r id i v m.sees m.holding in record {
+        in_range = stored.piece;
         fits = tt;
-        may = and_from (is_claimed (board_of k s.words) i) (not (has_empty k (board_of k s.words) i)) (claimed_on s i r held.piece held.is_claimed) (ap not (none_left k ok s.words r.wide i held.piece (λ o l. held.prefix o (let full = m.full in omega (arith, l, full)))));
+        may = and_from (is_claimed (board_of k s.words) i) (not (has_empty k (board_of k s.words) i)) (claimed_on s i r stored.piece stored.is_claimed) (ap not (none_left k ok s.words r.wide i stored.piece (λ o l. stored.prefix o (let full = m.full in omega (arith, l, full)))));
         change = ap (λ (z : St). z.words) h.2;
       }
   does s t (splits id works) r h = ap (λ (z : St). z.words) h.3

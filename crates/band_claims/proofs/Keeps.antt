@@ -81,28 +81,28 @@ module _ (k : Shape) (ok : IsShape k) (defined : ℕ → ℕ) (some_value : (j :
       → Rule record { words = s.words; homes = s.homes; views = set s.views id (claimed i n v) }
   after_loss s r id i n v at ne =
       let t = r.seats id v at in
-      let won : View = record { table_key = v.table_key; held = Some i; filled = 0; published = v.published; seen = v.seen; looked = []; told = v.told ++ look i 1 ∷ []; share = v.share } in
-      let lost : View = record { table_key = v.table_key; held = v.held; filled = v.filled; published = v.published; seen = v.seen; looked = v.looked ++ look i n ∷ []; told = v.told ++ look i n ∷ []; share = v.share } in
+      let won : View = record { table_key = v.table_key; stored = Some i; filled = 0; published = v.published; seen = v.seen; looked = []; reported = v.reported ++ look i 1 ∷ []; share = v.share } in
+      let lost : View = record { table_key = v.table_key; stored = v.stored; filled = v.filled; published = v.published; seen = v.seen; looked = v.looked ++ look i n ∷ []; reported = v.reported ++ look i n ∷ []; share = v.share } in
       let Q : Bool → Type 0 = λ b. Rule record { words = s.words; homes = s.homes; views = set s.views id (if b then won else lost) } in
       subst Q (sym (ne_eqb n 0 ne)) (calm s r id v lost at record { page = t.page; hand = t.hand; known = t.known; unshared = t.unshared } (λ j. refl) (λ j. refl) refl)
 
   pub after_read : (s : St) (r : Rule s) (id : ℕ) (v : View) → get_elem? s.views id ≡ some v → Rule record { words = s.words; homes = s.homes; views = set s.views id v }
   after_read s r id v at = calm s r id v v at (r.seats id v at) (λ j. refl) (λ j. refl) refl
 
-  empty_hand : (v : View) (j : ℕ) → v.held ≡ None → holds j v ≡ 0
+  empty_hand : (v : View) (j : ℕ) → v.stored ≡ None → holds j v ≡ 0
   empty_hand v j is = ap (is_hand j) is
 
-  full_hand : (v : View) (i : ℕ) → v.held ≡ Some i → holds i v ≡ 1
+  full_hand : (v : View) (i : ℕ) → v.stored ≡ Some i → holds i v ≡ 1
   full_hand v i is = ap (is_hand i) is ∙ same_one i i refl
 
-  other_hand : (v : View) (i j : ℕ) → v.held ≡ Some i → j ≢ i → holds j v ≡ 0
+  other_hand : (v : View) (i j : ℕ) → v.stored ≡ Some i → j ≢ i → holds j v ≡ 0
   other_hand v i j is ne = ap (is_hand j) is ∙ other_zero j i ne
 
   abbrev taking : View → ℕ → View
-  taking v i = record { table_key = v.table_key; held = Some i; filled = 0; published = v.published; seen = v.seen; looked = []; told = v.told ++ look i 1 ∷ []; share = v.share }
+  taking v i = record { table_key = v.table_key; stored = Some i; filled = 0; published = v.published; seen = v.seen; looked = []; reported = v.reported ++ look i 1 ∷ []; share = v.share }
 
   -- the winning exchange
-  pub wins : (s : St) (r : Rule s) (id i : ℕ) (v : View) → get_elem? s.views id ≡ some v → i < k.pieces → v.held ≡ None → 1 ≤ length v.share → piece_word s.words i ≡ 0 → ((n : ℕ) → k.needs i n ≡ true → Knows v n)
+  pub wins : (s : St) (r : Rule s) (id i : ℕ) (v : View) → get_elem? s.views id ≡ some v → i < k.pieces → v.stored ≡ None → 1 ≤ length v.share → piece_word s.words i ≡ 0 → ((n : ℕ) → k.needs i n ≡ true → Knows v n)
       → Rule record { words = set s.words i 1; homes = s.homes; views = set s.views id (claimed i 0 v) }
   wins s r id i v at l idle some_share free needs =
       let w : View = claimed i 0 v in let t = r.seats id v at in
@@ -142,30 +142,30 @@ module _ (k : Shape) (ok : IsShape k) (defined : ℕ → ℕ) (some_value : (j :
       let some_there = done_cell k ok s.words r.wide defined r.sound p o l m ((r.seats id v at).known p knows).1 in
       elim (some_cell k ok s.words r.wide defined r.sound c (omega (arith, ok.inside p l, m))) [ inl e ↦ absurd (some_there e) | inr e ↦ e ]
 
-  pub held_by : (s : St) (r : Rule s) (id p : ℕ) (v : View) → get_elem? s.views id ≡ some v → v.held ≡ Some p → Holding k s.words v.filled p
-  held_by s r id p v at is = let t = r.seats id v at in rw is at t.hand
+  pub stored_by : (s : St) (r : Rule s) (id p : ℕ) (v : View) → get_elem? s.views id ≡ some v → v.stored ≡ Some p → Holding k s.words v.filled p
+  stored_by s r id p v at is = let t = r.seats id v at in rw is at t.hand
 
   -- what another view holds is another piece
-  others_hold : (s : St) (r : Rule s) (id p j : ℕ) (v d : View) → get_elem? s.views id ≡ some v → v.held ≡ Some p → j ≢ id → get_elem? s.views j ≡ some d → holds p d ≡ 0
+  others_hold : (s : St) (r : Rule s) (id p j : ℕ) (v d : View) → get_elem? s.views id ≡ some v → v.stored ≡ Some p → j ≢ id → get_elem? s.views j ≡ some d → holds p d ≡ 0
   others_hold s r id p j v d at is ne e =
-      let h = held_by s r id p v at is in
+      let h = stored_by s r id p v at is in
       omega (arith, two_of (holds p) s.views id j v d ne at e, full_hand v p is, r.one_holder p h.piece, same_one (piece_word s.words p) 1 h.is_claimed)
 
-  pub stores : (s : St) (r : Rule s) (id p : ℕ) (v : View) → get_elem? s.views id ≡ some v → v.held ≡ Some p → v.filled < k.size p
+  pub stores : (s : St) (r : Rule s) (id p : ℕ) (v : View) → get_elem? s.views id ≡ some v → v.stored ≡ Some p → v.filled < k.size p
       → Rule record { words = set s.words (k.pieces + (k.start p + v.filled)) (defined (k.start p + v.filled)); homes = s.homes; views = set s.views id (put v) }
-  stores s r id p v at is room =
-      let h = held_by s r id p v at is in let t = r.seats id v at in let c : ℕ = k.start p + v.filled in let x : ℕ = defined c in
-      let inside : c < k.cells = omega (arith, ok.inside p h.piece, room) in
+  stores s r id p v at is workspace =
+      let h = stored_by s r id p v at is in let t = r.seats id v at in let c : ℕ = k.start p + v.filled in let x : ℕ = defined c in
+      let inside : c < k.cells = omega (arith, ok.inside p h.piece, workspace) in
       let stays = λ (j : ℕ) (m : j < k.pieces). piece_stays k ok s.words r.wide j c x m in record {
         wide = length-set s.words (k.pieces + c) x ∙ r.wide;
         states = states_cell k ok s.words r.wide r.states c x;
-        sound = sound_put k ok s.words r.wide defined r.sound p v.filled h.piece room h.is_claimed;
+        sound = sound_put k ok s.words r.wide defined r.sound p v.filled h.piece workspace h.is_claimed;
         seats = seats_after (set s.words (k.pieces + c) x) s.views id (put v) record {
           page = t.page;
           hand = rw is record {
             piece = h.piece;
             is_claimed = stays p h.piece ∙ h.is_claimed;
-            at_most = omega (arith, room);
+            at_most = omega (arith, workspace);
             prefix = λ o m e. elim (cases_eq o v.filled) [
               | inl same ↦ omega (arith, cell_here k ok s.words r.wide c x inside, some_value c inside, ap (λ (z : ℕ). cell_word k (set s.words (k.pieces + c) x) (k.start p + z)) same, e)
               | inr ne ↦ h.prefix o (omega (arith, m, ne)) (sym (cell_else k ok s.words r.wide c (k.start p + o) x (λ q. ne (omega (arith, q)))) ∙ e)
@@ -174,16 +174,16 @@ module _ (k : Shape) (ok : IsShape k) (defined : ℕ → ℕ) (some_value : (j :
           };
           known = λ j m. let d = t.known j m in (d.0, stays j d.0 ∙ d.1);
           unshared = t.unshared;
-        } (λ j d ne e. sits_cell k ok s.words r.wide key p v.filled x h.piece room d (others_hold s r id p j v d at is ne e) (r.seats j d e));
+        } (λ j d ne e. sits_cell k ok s.words r.wide key p v.filled x h.piece workspace d (others_hold s r id p j v d at is ne e) (r.seats j d e));
         one_holder = λ j m. omega (arith, total_set (holds j) s.views id v (put v) at, r.one_holder j m, ap (λ (z : ℕ). one_if (z == 1)) (stays j m));
         once = λ j m. omega (arith, total_set (publishes j) s.views id v (put v) at, r.once j m, ap (λ (z : ℕ). one_if (z == 2)) (stays j m));
         shares = whole_kept s.views id v (put v) at refl r.shares;
       }
 
-  pub ends : (s : St) (r : Rule s) (id p : ℕ) (v : View) → get_elem? s.views id ≡ some v → v.held ≡ Some p → v.filled ≡ k.size p
+  pub ends : (s : St) (r : Rule s) (id p : ℕ) (v : View) → get_elem? s.views id ≡ some v → v.stored ≡ Some p → v.filled ≡ k.size p
       → Rule record { words = set s.words p 2; homes = s.homes; views = set s.views id (finished p v) }
   ends s r id p v at is full =
-      let h = held_by s r id p v at is in let t = r.seats id v at in let w : View = finished p v in let l = h.piece in
+      let h = stored_by s r id p v at is in let t = r.seats id v at in let w : View = finished p v in let l = h.piece in
       let here = piece_here k ok s.words r.wide p 2 l in
       let unfinished : piece_word s.words p ≤ 1 = omega (arith, h.is_claimed) in
       let nobody : total (publishes p) s.views ≡ 0 = omega (arith, r.once p l, other_zero (piece_word s.words p) 2 (λ e. omega (arith, h.is_claimed, e))) in record {
@@ -229,7 +229,7 @@ module _ (k : Shape) (ok : IsShape k) (defined : ℕ → ℕ) (some_value : (j :
         shares = whole_split s.views id works v at r.shares;
       }
 
-  pub joins : (id other : ℕ) (v w : View) → w.held ≡ None → Joins Rule id v other w (joined v w) spent
+  pub joins : (id other : ℕ) (v w : View) → w.stored ≡ None → Joins Rule id v other w (joined v w) spent
   joins id other v w idle s r at ne at' =
       let both : View = joined v w in let vs : List View = set s.views id both in let t = r.seats id v at in
       let u = r.seats other w (sym (set_else s.views id other both ne) ∙ at') in

@@ -23,9 +23,9 @@ pub record Holding (k : Shape) (words : List ℕ) (filled i : ℕ) : Type 0 wher
 -- what the words say of one view
 pub record Sits (k : Shape) (key : TableKey) (words : List ℕ) (v : View) : Type 0 where
   pub page : MatchOption v.table_key (Unit {0}) (λ x. x ≡ key)
-  pub hand : MatchOption v.held (Unit {0}) (Holding k words v.filled)
+  pub hand : MatchOption v.stored (Unit {0}) (Holding k words v.filled)
   pub known : (i : ℕ) → Knows v i → (i < k.pieces) × (piece_word words i ≡ 2)
-  pub unshared : length v.share ≡ 0 → (v.held ≡ None) × (v.published ≡ [])
+  pub unshared : length v.share ≡ 0 → (v.stored ≡ None) × (v.published ≡ [])
 
 pub record Kept (k : Shape) (defined : ℕ → ℕ) (key : TableKey) (s : State (Unit {0}) View) : Type 0 where
   pub wide : length s.words ≡ k.pieces + k.cells

@@ -20,18 +20,18 @@ seen_after v w i n h = elim (cases_eq n 2) [
   | inr ne ↦ (h.more_seen.0, rw (ne_eqb n 2 ne) h.more_seen.1)
 ]
 
-told_more : (v w : View) (x : Look) → Looks v w → (more : List Look) × ((w.told ++ x ∷ []) ≡ v.told ++ more)
-told_more v w x h = (h.more_told.0 ++ x ∷ [], ap (λ (z : List Look). z ++ x ∷ []) h.more_told.1 ∙ append_assoc v.told h.more_told.0 (x ∷ []))
+reported_more : (v w : View) (x : Look) → Looks v w → (more : List Look) × ((w.reported ++ x ∷ []) ≡ v.reported ++ more)
+reported_more v w x h = (h.more_reported.0 ++ x ∷ [], ap (λ (z : List Look). z ++ x ∷ []) h.more_reported.1 ∙ append_assoc v.reported h.more_reported.0 (x ∷ []))
 
 pub looks_more : (v w : View) (i n : ℕ) → Looks v w → Looks v (looked_at i n w)
 looks_more v w i n h = record {
   same_table_key = h.same_table_key;
-  same_held = h.same_held;
+  same_stored = h.same_stored;
   same_filled = h.same_filled;
   same_published = h.same_published;
   more_seen = seen_after v w i n h;
   more_looked = (h.more_looked.0 ++ look i n ∷ [], ap (λ (z : List Look). z ++ look i n ∷ []) h.more_looked.1 ∙ append_assoc v.looked h.more_looked.0 (look i n ∷ []));
-  more_told = told_more v w (look i n) h;
+  more_reported = reported_more v w (look i n) h;
   same_share = h.same_share;
 }
 
@@ -52,7 +52,7 @@ won_by bands piece v w n h known e = rw (eq-eqb n 0 e) record {
   same_published = h.same_published;
   more_seen = h.more_seen;
   no_looks = refl;
-  more_told = told_more v w (look piece 1) h;
+  more_reported = reported_more v w (look piece 1) h;
   same_share = h.same_share;
   known = known;
 }
@@ -62,17 +62,17 @@ pub lost_exchange : (bands : Bands) (piece : ℕ) (v w : View) (n : ℕ) → Loo
 lost_exchange bands piece v w n h ne = rw (ne_eqb n 0 ne) record {
   looks = record {
     same_table_key = h.same_table_key;
-    same_held = h.same_held;
+    same_stored = h.same_stored;
     same_filled = h.same_filled;
     same_published = h.same_published;
     more_seen = h.more_seen;
     more_looked = (h.more_looked.0 ++ look piece n ∷ [], ap (λ (z : List Look). z ++ look piece n ∷ []) h.more_looked.1 ∙ append_assoc v.looked h.more_looked.0 (look piece n ∷ []));
-    more_told = told_more v w (look piece n) h;
+    more_reported = reported_more v w (look piece n) h;
     same_share = h.same_share;
   };
   last = look piece n;
   found = (h.more_looked.0, ap (λ (z : List Look). z ++ look piece n ∷ []) h.more_looked.1 ∙ append_assoc v.looked h.more_looked.0 (look piece n ∷ []));
-  cause = inr (refl, ne);
+  reason = inr (refl, ne);
 }
 
 -- a view knows the needs of a piece that stand before its k-th

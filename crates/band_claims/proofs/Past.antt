@@ -12,13 +12,13 @@ use Rattle.band_claims.specs.declared.table_key.TableKey.{TableKey}
 use Rattle.band_claims.specs.declared.view.View.{View}
 use Rattle.band_claims.specs.declared.view.Look.{Look}
 use Rattle.band_claims.specs.Kinds.{Kind, looks, wins, loses, reads, puts, finishes, splits, joins, Happens, Leads, first_state}
-use Rattle.band_claims.specs.Laws.{DoneStaysDone, LooksArePast, LooksAreTold, LooksRise}
+use Rattle.band_claims.specs.Laws.{DoneStaysDone, LooksArePast, LooksAreReported, LooksRise}
 use Rattle.band_claims.specs.Rule.{piece_word}
 use Rattle.band_claims.specs.TableKeys.{shape_of, cell, IsFit}
 use Rattle.band_claims.specs.Views.{look, newcomer, spent, looked_at, claimed, put, finished, parted, branched, joined}
 use Rattle.band_claims.proofs.Boards.{piece_here, piece_else, piece_stays}
 use Rattle.band_claims.proofs.Events.{keeps_rule}
-use Rattle.band_claims.proofs.Keeps.{held_by, opens}
+use Rattle.band_claims.proofs.Keeps.{stored_by, opens}
 use Rattle.band_claims.proofs.Kept.{Kept}
 use Rattle.band_claims.proofs.Steps.{cell_some, fit_shape, steps_are_run}
 
@@ -64,21 +64,21 @@ past_at k words [] after l h = h.1
 past_at k words (x ∷ xs) after l h = past_at k words xs after l h.2
 
 -- what a view looked at lately ends what it was told
-abbrev EndsTold : View → Type 0
-EndsTold v = (earlier : List Look) × (v.told ≡ earlier ++ v.looked)
+abbrev EndsReported : View → Type 0
+EndsReported v = (earlier : List Look) × (v.reported ≡ earlier ++ v.looked)
 
-told_one : (v : View) (l : Look) → EndsTold v → (earlier : List Look) × ((v.told ++ l ∷ []) ≡ earlier ++ (v.looked ++ l ∷ []))
-told_one v l t = (t.0, ap (λ (z : List Look). z ++ l ∷ []) t.1 ∙ append_assoc t.0 v.looked (l ∷ []))
+reported_one : (v : View) (l : Look) → EndsReported v → (earlier : List Look) × ((v.reported ++ l ∷ []) ≡ earlier ++ (v.looked ++ l ∷ []))
+reported_one v l t = (t.0, ap (λ (z : List Look). z ++ l ∷ []) t.1 ∙ append_assoc t.0 v.looked (l ∷ []))
 
-told_none : (told : List Look) → (earlier : List Look) × (told ≡ earlier ++ [])
-told_none told = (told, sym (append-nil told))
+reported_none : (reported : List Look) → (earlier : List Look) × (reported ≡ earlier ++ [])
+reported_none reported = (reported, sym (append-nil reported))
 
 module _ (k : Shape) (ok : IsShape k) (defined : ℕ → ℕ) (some_value : (j : ℕ) → j < k.cells → 1 ≤ defined j) (key : TableKey) where
   abbrev St : Type 0
   St = State (Unit {0}) View
 
   abbrev Of : List ℕ → View → Type 0
-  Of words v = Past k words v.looked × Past k words v.told × EndsTold v
+  Of words v = Past k words v.looked × Past k words v.reported × EndsReported v
 
   abbrev AllPast : List ℕ → List View → Type 0
   AllPast words views = (id : ℕ) (v : View) → get_elem? views id ≡ some v → Of words v
@@ -90,7 +90,7 @@ module _ (k : Shape) (ok : IsShape k) (defined : ℕ → ℕ) (some_value : (j :
   same words i l = omega arith
 
   later : (words next : List ℕ) (v : View) → Grow k words next → Of words v → Of next v
-  later words next v grow h = (past_later k words next v.looked grow h.0, past_later k words next v.told grow h.1, h.2)
+  later words next v grow h = (past_later k words next v.looked grow h.0, past_later k words next v.reported grow h.1, h.2)
 
   set_past : (words next : List ℕ) (views : List View) (id : ℕ) (w : View) → Grow k words next → Of next w → AllPast words views → AllPast next (set views id w)
   set_past words next views id w grow mine all j d e = ⊎_elim (λ (t : (j ≡ id) × (w ≡ d)). subst (Of next) t.1 mine)
@@ -104,37 +104,37 @@ module _ (k : Shape) (ok : IsShape k) (defined : ℕ → ℕ) (some_value : (j :
 
   step : (s t : St) (kind : Kind) → Kept k defined key s → P s → Happens k defined s kind t → P t
   step s t (looks id i) r all h = let v = h.0 in let n : ℕ = piece_word s.words i in let had = all id v h.1 in
-      let mine : Of s.words (looked_at i n v) = (past_more k s.words v.looked (look i n) had.0 h.2 refl, past_more k s.words v.told (look i n) had.1 h.2 refl, told_one v (look i n) had.2) in
+      let mine : Of s.words (looked_at i n v) = (past_more k s.words v.looked (look i n) had.0 h.2 refl, past_more k s.words v.reported (look i n) had.1 h.2 refl, reported_one v (look i n) had.2) in
       subst P (sym h.3) (set_past s.words s.words s.views id (looked_at i n v) (same s.words) mine all)
   step s t (wins id i) r all h = let v = h.0 in let less = h.2 in let next : List ℕ = set s.words i 1 in
       let grow = grow_piece s r i 1 h.1.piece (omega (arith, less)) in
       let had = later s.words next v grow (all id v h.1.sees) in
-      let mine : Of next (claimed i 0 v) = (tt, past_more k next v.told (look i 1) had.1 h.1.piece (sym (piece_here k ok s.words r.wide i 1 h.1.piece)), told_none (v.told ++ look i 1 ∷ [])) in
+      let mine : Of next (claimed i 0 v) = (tt, past_more k next v.reported (look i 1) had.1 h.1.piece (sym (piece_here k ok s.words r.wide i 1 h.1.piece)), reported_none (v.reported ++ look i 1 ∷ [])) in
       subst P (sym h.3) (set_past s.words next s.views id (claimed i 0 v) grow mine all)
   step s t (loses id i) r all h = let v = h.0 in let n : ℕ = piece_word s.words i in let had = all id v h.1.sees in
-      let mine : Of s.words (claimed i n v) = rw (ne_eqb n 0 h.2) (past_more k s.words v.looked (look i n) had.0 h.1.piece refl, past_more k s.words v.told (look i n) had.1 h.1.piece refl, told_one v (look i n) had.2) in
+      let mine : Of s.words (claimed i n v) = rw (ne_eqb n 0 h.2) (past_more k s.words v.looked (look i n) had.0 h.1.piece refl, past_more k s.words v.reported (look i n) had.1 h.1.piece refl, reported_one v (look i n) had.2) in
       subst P (sym h.3) (set_past s.words s.words s.views id (claimed i n v) (same s.words) mine all)
   step s t (reads id j) r all h = subst P (sym h.2) (set_past s.words s.words s.views id h.0 (same s.words) (all id h.0 h.1.sees) all)
   step s t (puts id j value) r all h = let v = h.0 in let next : List ℕ = set s.words (k.pieces + j) value in
       let grow : Grow k s.words next = (λ i l. let e = piece_stays k ok s.words r.wide i j value l in omega (arith, e)) in
       subst P (sym h.2) (set_past s.words next s.views id (put v) grow (later s.words next v grow (all id v h.1.sees)) all)
-  step s t (finishes id i) r all h = let v = h.0 in let held = held_by k ok defined some_value key s r id i v h.1.sees h.1.holding in let one = held.is_claimed in
-      let next : List ℕ = set s.words i 2 in let grow = grow_piece s r i 2 held.piece (omega (arith, one)) in
+  step s t (finishes id i) r all h = let v = h.0 in let stored = stored_by k ok defined some_value key s r id i v h.1.sees h.1.holding in let one = stored.is_claimed in
+      let next : List ℕ = set s.words i 2 in let grow = grow_piece s r i 2 stored.piece (omega (arith, one)) in
       let had = later s.words next v grow (all id v h.1.sees) in
-      let mine : Of next (finished i v) = (tt, past_more k next v.told (look i 2) had.1 held.piece (sym (piece_here k ok s.words r.wide i 2 held.piece)), told_none (v.told ++ look i 2 ∷ [])) in
+      let mine : Of next (finished i v) = (tt, past_more k next v.reported (look i 2) had.1 stored.piece (sym (piece_here k ok s.words r.wide i 2 stored.piece)), reported_none (v.reported ++ look i 2 ∷ [])) in
       subst P (sym h.2) (set_past s.words next s.views id (finished i v) grow mine all)
   step s t (splits id works) r all h = let v = h.0 in let u : View = parted works v in let w : View = branched works v in let had = all id v h.1 in
-      let mine : Of s.words w = (tt, had.1, told_none v.told) in
+      let mine : Of s.words w = (tt, had.1, reported_none v.reported) in
       subst P (sym h.3) (λ j d e. ⊎_elim (set_past s.words s.words s.views id u (same s.words) had all j d) (λ (q : w ≡ d). subst (Of s.words) q mine) (at_snoc (set s.views id u) w d j e))
   step s t (joins id other) r all h = let v = h.0 in let w = h.1 in let both : View = joined v w in
-      subst P (sym h.3) (set_past s.words s.words (set s.views id both) other spent (same s.words) (tt, tt, told_none []) (set_past s.words s.words s.views id both (same s.words) (all id v h.2.sees) all))
+      subst P (sym h.3) (set_past s.words s.words (set s.views id both) other spent (same s.words) (tt, tt, reported_none []) (set_past s.words s.words s.views id both (same s.words) (all id v h.2.sees) all))
 
   all_steps : (s t : St) (kinds : List Kind) → Kept k defined key s → P s → Leads k defined s kinds t → P t
   all_steps s t [] r all leads = subst P (sym leads) all
   all_steps s t (kind ∷ kinds) r all leads = all_steps leads.0 t kinds (keeps_rule k ok defined some_value key s leads.0 kind r leads.1) (step s leads.0 kind r all leads.1) leads.2
 
   first_past : (words : List ℕ) → AllPast words (newcomer key ∷ [])
-  first_past words zero d e = subst (Of words) (some-injective (newcomer key) d e) (tt, tt, told_none [])
+  first_past words zero d e = subst (Of words) (some-injective (newcomer key) d e) (tt, tt, reported_none [])
   first_past words (suc j) d e = absurd (some-ne-none d (sym e))
 
 pub looks_are_past : (key : TableKey) → IsFit key → LooksArePast key
@@ -144,8 +144,8 @@ looks_are_past key fit kinds t steps id v at before after shown stands =
     let all = all_steps k ok (cell key) (cell_some key fit) key (first_state k key) t kinds first (first_past k ok (cell key) (cell_some key fit) key words) steps in
     past_at k t.words before after shown (subst (Past k t.words) stands (all id v at).0)
 
-pub looks_are_told : (key : TableKey) → IsFit key → LooksAreTold key
-looks_are_told key fit kinds t steps id v at =
+pub looks_are_reported : (key : TableKey) → IsFit key → LooksAreReported key
+looks_are_reported key fit kinds t steps id v at =
     let k = shape_of key in let ok = fit_shape key fit in let words : List ℕ = replicate (k.pieces + k.cells) 0 in
     let first = opens k ok (cell key) (cell_some key fit) key words (length-replicate (k.pieces + k.cells) 0) (zero_at (k.pieces + k.cells)) in
     (all_steps k ok (cell key) (cell_some key fit) key (first_state k key) t kinds first (first_past k ok (cell key) (cell_some key fit) key words) steps id v at).2
@@ -158,7 +158,7 @@ looks_rise key fit kinds t steps id v at before mid after shown later stands =
     past_rise k t.words before mid after shown later (subst (Past k t.words) stands (all id v at).1)
 
 past_all : (key : TableKey) → IsFit key → (kinds : List Kind) (t : State (Unit {0}) View) → Leads (shape_of key) (cell key) (first_state (shape_of key) key) kinds t → (id : ℕ) (v : View) → get_elem? t.views id ≡ some v
-    → Past (shape_of key) t.words v.told × ((i : ℕ) → i < (shape_of key).pieces → piece_word t.words i ≤ 2)
+    → Past (shape_of key) t.words v.reported × ((i : ℕ) → i < (shape_of key).pieces → piece_word t.words i ≤ 2)
 past_all key fit kinds t steps id v at =
     let k = shape_of key in let ok = fit_shape key fit in let words : List ℕ = replicate (k.pieces + k.cells) 0 in
     let first = opens k ok (cell key) (cell_some key fit) key words (length-replicate (k.pieces + k.cells) 0) (zero_at (k.pieces + k.cells)) in

@@ -13,7 +13,7 @@ use Rattle.band_claims.specs.declared.table_key.TableKey.{TableKey}
 use Rattle.band_claims.specs.declared.view.View.{View}
 use Rattle.band_claims.specs.Views.{one_if, total, is_hand, holds, publishes}
 use Rattle.band_claims.specs.Rule.{piece_word, Ruled, FirstFilled}
-use Rattle.band_claims.specs.Laws.{HeldOnce, PublishedOnce}
+use Rattle.band_claims.specs.Laws.{StoredOnce, PublishedOnce}
 use Rattle.band_claims.proofs.Kept.{Holding, Kept}
 use Rattle.band_claims.proofs.Totals.{one_of, two_of}
 use Rattle.band_claims.proofs.Boards.{same_one, other_zero}
@@ -30,7 +30,7 @@ in_hand : (i : ℕ) (h : Option ℕ) → 1 ≤ is_hand i h → h ≡ Some i
 in_hand i None l = absurd (omega (arith, l))
 in_hand i (Some j) l = elim (cases_eq i j) [ inl e ↦ ap Some (sym e) | inr ne ↦ absurd (omega (arith, l, other_zero i j ne)) ]
 
-one_hand : (i : ℕ) (v : View) → v.held ≡ Some i → holds i v ≡ 1
+one_hand : (i : ℕ) (v : View) → v.stored ≡ Some i → holds i v ≡ 1
 one_hand i v e = ap (is_hand i) e ∙ same_one i i refl
 
 at_most_one : (b : Bool) → one_if b ≤ 1
@@ -67,8 +67,8 @@ module _ (k : Shape) (ok : IsShape k) (defined : ℕ → ℕ) (key : TableKey) (
   two_words : Ruled k defined key s → (i : ℕ) → i < k.pieces → is_done (board_of k s.words) i ≡ true → piece_word s.words i ≡ 2
   two_words r i l t = done_is (piece_word s.words i) (sym (ap state_done (state_is k s.words i l)) ∙ t) (r.words.states i l)
 
-  holding : Ruled k defined key s → (id i : ℕ) (v : View) → get_elem? s.views id ≡ some v → v.held ≡ Some i → Holding k s.words v.filled i
-  holding r id i v at is = let f = r.held_filled id i v at is in record {
+  holding : Ruled k defined key s → (id i : ℕ) (v : View) → get_elem? s.views id ≡ some v → v.stored ≡ Some i → Holding k s.words v.filled i
+  holding r id i v at is = let f = r.stored_filled id i v at is in record {
     piece = f.piece;
     is_claimed = elim (cases_eq (piece_word s.words i) 1) [
       | inl e ↦ e
@@ -86,7 +86,7 @@ module _ (k : Shape) (ok : IsShape k) (defined : ℕ → ℕ) (key : TableKey) (
     sound = r.sound;
     seats = λ id v at. record {
       page = r.one_page id v at;
-      hand = hand_from k s.words v.filled v.held (λ i is. holding r id i v at is);
+      hand = hand_from k s.words v.filled v.stored (λ i is. holding r id i v at is);
       known = λ i m. let t = r.known_done id i v at m in (t.0, two_words r i t.0 t.1);
       unshared = r.unshared id v at;
     };
@@ -95,7 +95,7 @@ module _ (k : Shape) (ok : IsShape k) (defined : ℕ → ℕ) (key : TableKey) (
     shares = r.shares;
   }
 
-  first_filled : Kept k defined key s → (id i : ℕ) (v : View) → get_elem? s.views id ≡ some v → v.held ≡ Some i → FirstFilled k (board_of k s.words) i v.filled
+  first_filled : Kept k defined key s → (id i : ℕ) (v : View) → get_elem? s.views id ≡ some v → v.stored ≡ Some i → FirstFilled k (board_of k s.words) i v.filled
   first_filled r id i v at is =
       let t = r.seats id v at in
       let h : Holding k s.words v.filled i = rw is at t.hand in record {
@@ -111,7 +111,7 @@ module _ (k : Shape) (ok : IsShape k) (defined : ℕ → ℕ) (key : TableKey) (
     one_page = λ id v at. (r.seats id v at).page;
     sound = r.sound;
     one_holder = λ i l. r.one_holder i l ∙ ap one_if (sym (claimed_at i l));
-    held_filled = λ id i v at is. first_filled r id i v at is;
+    stored_filled = λ id i v at is. first_filled r id i v at is;
     known_done = λ id i v at m. let t = (r.seats id v at).known i m in (t.0, ap state_done (state_is k s.words i t.0 ∙ ap state_of t.1));
     once = λ i l. r.once i l ∙ ap one_if (sym (done_at i l (r.states i l)));
     shares = r.shares;
@@ -124,9 +124,9 @@ most_once k defined key s r i = elim (cases_eq (total (publishes i) s.views) 0) 
   | inr there ↦ (let t = some_part (publishes i) s.views (omega (arith, there)) in let d = r.known_done t.0 i t.1 t.2 (omega (arith, t.3)) in omega (arith, r.once i d.0, at_most_one (is_done (board_of k s.words) i)))
 ]
 
-pub held_once : HeldOnce
-held_once k defined key s r i l = (
-  (λ is. let t = some_part (holds i) s.views (omega (arith, r.one_holder i l, ap one_if is)) in (t.0, t.1, t.2, in_hand i t.1.held t.3)),
+pub stored_once : StoredOnce
+stored_once k defined key s r i l = (
+  (λ is. let t = some_part (holds i) s.views (omega (arith, r.one_holder i l, ap one_if is)) in (t.0, t.1, t.2, in_hand i t.1.stored t.3)),
   (λ id v at e. either_way (is_claimed (board_of k s.words) i) (omega (arith, one_of (holds i) s.views id v at, one_hand i v e, r.one_holder i l))),
   (λ id other v w at at' e d. elim (cases_eq other id) [
     | inl same ↦ same

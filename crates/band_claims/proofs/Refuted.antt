@@ -98,25 +98,25 @@ module _ (key : TableKey) (fit : IsFit key) (works : Bool) where
   record Fills (n : ℕ) : Type 0 where
     pub view : View
     pub stands : Stands view 1
-    pub held : view.held ≡ Some 0
+    pub stored : view.stored ≡ Some 0
     pub filled : view.filled ≡ n
 
   fill : (n : ℕ) → n ≤ k.size 0 → Fills n
-  fill zero l = record { view = claimed 0 0 first; stands = taken; held = refl; filled = refl }
+  fill zero l = record { view = claimed 0 0 first; stands = taken; stored = refl; filled = refl }
   fill (suc n) l =
       let f = fill n (omega (arith, l)) in let v : View = f.view in let s = f.stands in let so_far = f.filled in
       let j : ℕ = k.start 0 + v.filled in let value : ℕ = cell key j in
-      let may : MayPut k (cell key) s.state 0 j value v = record { sees = s.first_at; piece = 0; holding = f.held; room = omega (arith, l, so_far); next = refl; right = refl } in record {
+      let may : MayPut k (cell key) s.state 0 j value v = record { sees = s.first_at; piece = 0; holding = f.stored; workspace = omega (arith, l, so_far); next = refl; right = refl } in record {
         view = put v;
         stands = moved_on v (put v) 1 1 s (puts 0 j value) (set s.state.words (k.pieces + j) value) (v, may, refl) (piece_stays k (fit_shape key fit) s.state.words (there s.state s.rule).wide 0 j value some_pieces ∙ s.word);
-        held = f.held;
+        stored = f.stored;
         filled = omega (arith, so_far);
       }
 
   done : (v : View) × Stands v 2
   done =
       let f = fill (k.size 0) (omega arith) in let v : View = f.view in let s = f.stands in
-      let may : MayFinish k s.state 0 0 v = record { sees = s.first_at; holding = f.held; full = f.filled } in
+      let may : MayFinish k s.state 0 0 v = record { sees = s.first_at; holding = f.stored; full = f.filled } in
       (finished 0 v, moved_on v (finished 0 v) 1 2 s (finishes 0 0) (set s.state.words 0 2) (v, may, refl) (piece_here k (fit_shape key fit) s.state.words (there s.state s.rule).wide 0 2 some_pieces))
 
   -- the second seat finds the word, and then may tell of it
@@ -131,9 +131,9 @@ module _ (key : TableKey) (fit : IsFit key) (works : Bool) where
       let next_at : get_elem? (set looking.views 1 t.0) 1 ≡ some t.0 = set_there looking.views 1 seen t.0 at in
       let still : get_or (set words 0 found) 0 0 ≡ found = piece_here k (fit_shape key fit) words (there s.state s.rule).wide 0 found some_pieces in
       let looked = ap (λ (m : Me (Unit {0}) View). m.0.looked) t.4 in
-      let told = ap (λ (m : Me (Unit {0}) View). m.0.told) t.4 in
+      let reported = ap (λ (m : Me (Unit {0}) View). m.0.reported) t.4 in
       let past = looks_are_past key fit t.3.kinds _ t.3.steps 1 t.0 next_at (look 0 found ∷ []) [] (look 0 (tells found)) looked in
-      let rise = looks_rise key fit t.3.kinds _ t.3.steps 1 t.0 next_at [] [] [] (look 0 found) (look 0 (tells found)) told refl in
+      let rise = looks_rise key fit t.3.kinds _ t.3.steps 1 t.0 next_at [] [] [] (look 0 found) (look 0 (tells found)) reported refl in
       subst (λ (z : ℕ). tells z ≡ z) s.word (omega (arith, past, still, rise))
 
 pub looks_are_honest : (key : TableKey) → IsFit key → LooksAreHonest key

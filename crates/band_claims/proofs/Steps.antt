@@ -58,8 +58,8 @@ small_word key fit p j here =
     let below : j < (shape_of key).cells = omega (arith, inside, here.below) in
     (below, omega (arith, below, cells_fit key.layout fit.made, fit.made.bands.few_bands))
 
-told : (key : TableKey) (table_key : Option TableKey) (word j n : ℕ) → table_key ≡ Some key → word ≡ pieces_of key.layout.bands + j → n ≡ cell key j → Cell table_key word n
-told key table_key word j n page is e = rw page (e ∙ ap (cell key) (omega (arith, is)))
+reported : (key : TableKey) (table_key : Option TableKey) (word j n : ℕ) → table_key ≡ Some key → word ≡ pieces_of key.layout.bands + j → n ≡ cell key j → Cell table_key word n
+reported key table_key word j n page is e = rw page (e ∙ ap (cell key) (omega (arith, is)))
 
 as_fair : (key : TableKey) (w : View) → w.table_key ≡ Some key → IsFair (pieces_of key.layout.bands) w → Fair w
 as_fair key w e h = subst (λ (o : Option TableKey). MatchOption o (Unit {0}) (λ k. IsFair (pieces_of k.layout.bands) w)) (sym e) h
@@ -110,7 +110,7 @@ module _ (key : TableKey) (fit : IsFit key) where
       let n : ℕ = get_or s.words i 0 in let w : View = looked_at i n me.0 in
       (w, keeps, tt, on s (moved s id (set s.words i n) w) (kind_looks id i) r (me.0, at, l, left s id i w), refl)
 
-  pub claims : (slots id : ℕ) (me : M) (i : ℕ) → i < k.pieces → me.0.held ≡ None → 1 ≤ length me.0.share → ((n : ℕ) → k.needs i n ≡ true → Knows me.0 n)
+  pub claims : (slots id : ℕ) (me : M) (i : ℕ) → i < k.pieces → me.0.stored ≡ None → 1 ≤ length me.0.share → ((n : ℕ) → k.needs i n ≡ true → Knows me.0 n)
       → Allows (Remembered key) slots id me i (λ n. either (n == 0) 1 n) (λ n m. m ≡ (claimed i n me.0, me.1))
   claims slots id me i l idle some_share needs s r _ at _ =
       let n : ℕ = get_or s.words i 0 in let v = me.0 in
@@ -126,11 +126,11 @@ module _ (key : TableKey) (fit : IsFit key) where
         refl,
       )
 
-  pub puts : (slots id : ℕ) (me : M) (p x : ℕ) → me.0.held ≡ Some p → me.0.filled < k.size p → x ≡ cell key (k.start p + me.0.filled)
+  pub puts : (slots id : ℕ) (me : M) (p x : ℕ) → me.0.stored ≡ Some p → me.0.filled < k.size p → x ≡ cell key (k.start p + me.0.filled)
       → Allows (Remembered key) slots id me (k.pieces + (k.start p + me.0.filled)) (λ _. x) (λ _ m. m ≡ (put me.0, me.1))
-  puts slots id me p x is room value s r _ at _ =
+  puts slots id me p x is workspace value s r _ at _ =
       let v = me.0 in let j : ℕ = k.start p + v.filled in
-      let may : MayPut k (cell key) s id j x v = record { sees = at; piece = p; holding = is; room = room; next = refl; right = value } in
+      let may : MayPut k (cell key) s id j x v = record { sees = at; piece = p; holding = is; workspace = workspace; next = refl; right = value } in
       (put v, keeps, tt, on s (moved s id (set s.words (k.pieces + j) x) (put v)) (kind_puts id j x) r (v, may, refl), refl)
 
   pub reads_word : (slots id : ℕ) (me : M) (word j p : ℕ) → me.0.table_key ≡ Some key → word ≡ pieces_of key.layout.bands + j → Has k p j → Knows me.0 p
@@ -140,14 +140,14 @@ module _ (key : TableKey) (fit : IsFit key) where
       let o : ℕ = j - k.start p in
       let spot : k.start p + o ≡ j = omega (arith, here.from) in
       let word_at : k.pieces + (k.start p + o) ≡ word = omega (arith, spot, is) in
-      let room : o < k.size p = omega (arith, here.from, here.below) in
+      let workspace : o < k.size p = omega (arith, here.from, here.below) in
       let may : MayRead k s id j v = record { sees = at; piece = p; has = here; known = knows } in
       let found : Cell v.table_key word (get_or s.words word 0) =
-      subst (λ (w : ℕ). Cell v.table_key w (get_or s.words w 0)) word_at (told key v.table_key (k.pieces + (k.start p + o)) (k.start p + o) (get_or s.words (k.pieces + (k.start p + o)) 0) page refl
-      (value_read k ok (cell key) values key p o here.piece room v s (there s r.rule) id at knows)) in
+      subst (λ (w : ℕ). Cell v.table_key w (get_or s.words w 0)) word_at (reported key v.table_key (k.pieces + (k.start p + o)) (k.start p + o) (get_or s.words (k.pieces + (k.start p + o)) 0) page refl
+      (value_read k ok (cell key) values key p o here.piece workspace v s (there s r.rule) id at knows)) in
       (v, keeps, tt, on s (moved s id (set s.words word (get_or s.words word 0)) v) (kind_reads id j) r (v, may, left s id word v), (refl, found))
 
-  pub finishes_word : (slots id : ℕ) (me : M) (p : ℕ) → me.0.table_key ≡ Some key → me.0.held ≡ Some p → me.0.filled ≡ k.size p
+  pub finishes_word : (slots id : ℕ) (me : M) (p : ℕ) → me.0.table_key ≡ Some key → me.0.stored ≡ Some p → me.0.filled ≡ k.size p
       → Allows (Remembered key) slots id me p (λ _. 2) (λ _ m. (m ≡ (finished p me.0, me.1)) × Fair m.0)
   finishes_word slots id me p page is full s r _ at _ =
       let v = me.0 in let w : View = finished p v in let t : St = moved s id (set s.words p 2) w in
@@ -155,10 +155,10 @@ module _ (key : TableKey) (fit : IsFit key) where
       let next = on s t (kind_finishes id p) r (v, may, refl) in
       (w, keeps, tt, next, (refl, as_fair key w page (fair k ok (cell key) values key t (there t next.rule) id w (set_there s.views id v w at))))
 
-  pub splits : (id : ℕ) (works : Bool) (v : View) → v.held ≡ None → Splits (Remembered key) id v (parted works v) (branched works v)
+  pub splits : (id : ℕ) (works : Bool) (v : View) → v.stored ≡ None → Splits (Remembered key) id v (parted works v) (branched works v)
   splits id works v idle s r at = on s _ (kind_splits id works) r (v, at, idle, refl)
 
-  pub joins : (id other : ℕ) (v w : View) → v.held ≡ None → w.held ≡ None → Joins (Remembered key) id v other w (joined v w) spent
+  pub joins : (id other : ℕ) (v w : View) → v.stored ≡ None → w.stored ≡ None → Joins (Remembered key) id v other w (joined v w) spent
   joins id other v w idle other_idle s r at ne at' =
       on s _ (kind_joins id other) r (v, w, record { sees = at; other_sees = sym (set_else s.views id other (joined v w) ne) ∙ at'; two = ne; idle = idle; other_idle = other_idle }, refl)
 
@@ -183,14 +183,14 @@ module _ (key : TableKey) (fit : IsFit key) where
   ]
 
   -- and where it holds nothing, no piece is claimed
-  none_claimed : (s : St) → Kept k (cell key) key s → (id : ℕ) (v : View) → get_elem? s.views id ≡ some v → v.held ≡ None → IsWhole v.share → (i : ℕ) → i < k.pieces → piece_word s.words i ≢ 1
+  none_claimed : (s : St) → Kept k (cell key) key s → (id : ℕ) (v : View) → get_elem? s.views id ≡ some v → v.stored ≡ None → IsWhole v.share → (i : ℕ) → i < k.pieces → piece_word s.words i ≢ 1
   none_claimed s r id v at idle whole i l one =
       let alone = one_alone (holds i) s.views id v at (λ j d ne e. ap (is_hand i) ((r.seats j d e).unshared (others_none s.views id v at r.shares whole j d ne e)).0) in
       let mine : holds i v ≡ 0 = ap (is_hand i) idle in
       let claimed_one : one_if (piece_word s.words i == 1) ≡ 1 = same_one (piece_word s.words i) 1 one in
       omega (arith, r.one_holder i l, alone, mine, claimed_one)
 
-  pub settles : (id : ℕ) (v : View) (ws : List ℕ) (xs : List (Unit {0})) → Final (Seen (Remembered key) id v) ws xs → v.held ≡ None → IsWhole v.share → (i : ℕ) → i < k.pieces → piece_word ws i ≢ 1
+  pub settles : (id : ℕ) (v : View) (ws : List ℕ) (xs : List (Unit {0})) → Final (Seen (Remembered key) id v) ws xs → v.stored ≡ None → IsWhole v.share → (i : ℕ) → i < k.pieces → piece_word ws i ≢ 1
   settles id v ws xs f idle whole i l =
       subst (λ (ws' : List ℕ). piece_word ws' i ≢ 1) f.2 (none_claimed f.0 (there f.0 f.1.0.rule) id v f.1.1 idle whole i l)
 

@@ -12,12 +12,12 @@ abbrev pub filled_to : ℕ → View → View
 filled_to n v =
     record {
       table_key = v.table_key;
-      held = v.held;
+      stored = v.stored;
       filled = n;
       published = v.published;
       seen = v.seen;
       looked = v.looked;
-      told = v.told;
+      reported = v.reported;
       share = v.share;
     }
 

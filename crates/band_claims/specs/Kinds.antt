@@ -38,7 +38,7 @@ moved s id words v = record { words = words; homes = s.homes; views = slice_set 
 pub record MayClaim (k : Shape) (s : State (Unit {0}) View) (id i : ℕ) (v : View) : Type 0 where
   pub sees : Sees s id v
   pub piece : i < k.pieces
-  pub idle : v.held ≡ None
+  pub idle : v.stored ≡ None
   pub shares : 1 ≤ length v.share
   pub known : (n : ℕ) → k.needs i n ≡ true → Knows v n
 
@@ -54,15 +54,15 @@ pub record MayPut (k : Shape) (defined : ℕ → ℕ) (s : State (Unit {0}) View
     (v : View) : Type 0 where
   pub sees : Sees s id v
   pub piece : ℕ
-  pub holding : v.held ≡ Some piece
-  pub room : v.filled < k.size piece
+  pub holding : v.stored ≡ Some piece
+  pub workspace : v.filled < k.size piece
   pub next : j ≡ k.start piece + v.filled
   pub right : value ≡ defined j
 
 -- it publishes the piece that it holds, whose cells it has all filled
 pub record MayFinish (k : Shape) (s : State (Unit {0}) View) (id i : ℕ) (v : View) : Type 0 where
   pub sees : Sees s id v
-  pub holding : v.held ≡ Some i
+  pub holding : v.stored ≡ Some i
   pub full : v.filled ≡ k.size i
 
 -- two seats, which hold nothing, may become one
@@ -70,8 +70,8 @@ pub record MayJoin (s : State (Unit {0}) View) (id other : ℕ) (v w : View) : T
   pub sees : Sees s id v
   pub other_sees : Sees s other w
   pub two : other ≢ id
-  pub idle : v.held ≡ None
-  pub other_idle : w.held ≡ None
+  pub idle : v.stored ≡ None
+  pub other_idle : w.stored ≡ None
 
 -- a step of this kind leads from s to t
 abbrev pub Happens : Shape → (ℕ → ℕ) → State (Unit {0}) View → Kind → State (Unit {0}) View → Type 0
@@ -86,7 +86,7 @@ Happens k defined s (puts id j value) t = (v : View) × MayPut k defined s id j 
     × (t ≡ moved s id (slice_set s.words (k.pieces + j) value) (put v))
 Happens k defined s (finishes id i) t =
     (v : View) × MayFinish k s id i v × (t ≡ moved s id (slice_set s.words i 2) (finished i v))
-Happens k defined s (splits id works) t = (v : View) × Sees s id v × (v.held ≡ None)
+Happens k defined s (splits id works) t = (v : View) × Sees s id v × (v.stored ≡ None)
     × (t ≡ record {
       words = s.words;
       homes = s.homes;

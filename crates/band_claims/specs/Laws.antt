@@ -18,15 +18,15 @@ use Rattle.band_claims.specs.TableKeys.{shape_of, cell}
 
 -- a claimed piece has a holder; who holds a piece finds it claimed; and two holders of one piece
 -- are one view
-abbrev pub HeldOnce : Type 0
-HeldOnce = (k : Shape) (defined : ℕ → ℕ) (key : TableKey) (s : State (Unit {0}) View)
+abbrev pub StoredOnce : Type 0
+StoredOnce = (k : Shape) (defined : ℕ → ℕ) (key : TableKey) (s : State (Unit {0}) View)
     → Ruled k defined key s → (i : ℕ) → i < k.pieces
     → (is_claimed (board_of k s.words) i ≡ true
-    → (id : ℕ) × (v : View) × Sees s id v × (v.held ≡ Some i))
-    × ((id : ℕ) (v : View) → Sees s id v → v.held ≡ Some i
+    → (id : ℕ) × (v : View) × Sees s id v × (v.stored ≡ Some i))
+    × ((id : ℕ) (v : View) → Sees s id v → v.stored ≡ Some i
     → is_claimed (board_of k s.words) i ≡ true)
-    × ((id other : ℕ) (v w : View) → Sees s id v → Sees s other w → v.held ≡ Some i
-    → w.held ≡ Some i → other ≡ id)
+    × ((id other : ℕ) (v w : View) → Sees s id v → Sees s other w → v.stored ≡ Some i
+    → w.stored ≡ Some i → other ≡ id)
 
 abbrev pub PublishedOnce : Type 0
 PublishedOnce = (k : Shape) (defined : ℕ → ℕ) (key : TableKey) (s : State (Unit {0}) View)
@@ -64,21 +64,21 @@ LooksArePast key = (kinds : List Kind) (t : State (Unit {0}) View) → Steps key
     → shown.word ≤ piece_word t.words shown.piece
 
 -- the looks that a seat tells of end what it was told
-abbrev pub LooksAreTold : TableKey → Type 0
-LooksAreTold key = (kinds : List Kind) (t : State (Unit {0}) View) → Steps key kinds t
+abbrev pub LooksAreReported : TableKey → Type 0
+LooksAreReported key = (kinds : List Kind) (t : State (Unit {0}) View) → Steps key kinds t
     → (id : ℕ) (v : View) → Sees t id v
-    → (earlier : List Look) × (v.told ≡ earlier ++ v.looked)
+    → (earlier : List Look) × (v.reported ≡ earlier ++ v.looked)
 
 -- of two words of one piece that a seat was told of the later one is no less
 abbrev pub LooksRise : TableKey → Type 0
 LooksRise key = (kinds : List Kind) (t : State (Unit {0}) View) → Steps key kinds t
     → (id : ℕ) (v : View) → Sees t id v
     → (before mid after : List Look) (shown later : Look)
-    → v.told ≡ before ++ shown ∷ (mid ++ later ∷ after) → later.piece ≡ shown.piece
+    → v.reported ≡ before ++ shown ∷ (mid ++ later ∷ after) → later.piece ≡ shown.piece
     → shown.word ≤ later.word
 
 -- a piece that the last pass published or saw done is done whenever it looks again
 abbrev pub DoneStaysDone : TableKey → Type 0
 DoneStaysDone key = (words : List ℕ) (v : View) → Ends key words v
     → (before mid after : List Look) (i n : ℕ)
-    → v.told ≡ before ++ look i 2 ∷ (mid ++ look i n ∷ after) → n ≡ 2
+    → v.reported ≡ before ++ look i 2 ∷ (mid ++ look i n ∷ after) → n ≡ 2

@@ -13,10 +13,10 @@ pub record Receipt : Type 0 where
   pub published : List ℕ
   pub seen : List ℕ
   pub looked : List Look
-  pub told : List Look
+  pub reported : List Look
   pub alone : List ℕ
   -- how many marks there is memory for
-  pub room : ℕ
+  pub workspace : ℕ
 
 -- each number is greater than the one before it, and the first is at least n
 abbrev pub Ascends : ℕ → List ℕ → Type 0

@@ -12,7 +12,7 @@ use Rattle.band_claims.specs.Views.{looked_at}
 -- of it, or it reads alone and has none.
 abbrev pub MayTell : TableKey → Bool → (ℕ → ℕ) → Type 0
 MayTell key works tells = (id : ℕ) (me : Me (Unit {0}) View) (i : ℕ) → i < (shape_of key).pieces
-    → me.0.table_key ≡ Some key → nat_lt 0 (length me.0.share) ≡ works → me.0.held ≡ None
+    → me.0.table_key ≡ Some key → nat_lt 0 (length me.0.share) ≡ works → me.0.stored ≡ None
     → Allows (Remembered key) 0 id me i (λ n. n) (λ n m. m ≡ (looked_at i (tells n) me.0, me.1))
 
 -- the same word whatever the one is that it found

@@ -56,7 +56,7 @@ pub record Ruled (k : Shape) (defined : ℕ → ℕ) (key : TableKey)
       → total (holds i) s.views ≡ one_if (is_claimed (board_of k s.words) i)
   -- of a held piece the first cells are filled, as many as its holder says, and the others are
   -- empty
-  pub held_filled : (id i : ℕ) (v : View) → Sees s id v → v.held ≡ Some i
+  pub stored_filled : (id i : ℕ) (v : View) → Sees s id v → v.stored ≡ Some i
       → FirstFilled k (board_of k s.words) i v.filled
   -- a piece that is in a list of published or seen pieces is done
   pub known_done : (id i : ℕ) (v : View) → Sees s id v → Knows v i
@@ -68,7 +68,7 @@ pub record Ruled (k : Shape) (defined : ℕ → ℕ) (key : TableKey)
   -- nothing
   pub shares : AreOneWhole s.views
   pub unshared : (id : ℕ) (v : View) → Sees s id v → length v.share ≡ 0
-      → (v.held ≡ None) × (v.published ≡ [])
+      → (v.stored ≡ None) × (v.published ≡ [])
 
 -- the rule of the table of a page
 abbrev pub RuleOf : TableKey → State (Unit {0}) View → Type 0

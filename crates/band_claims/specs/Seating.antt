@@ -17,7 +17,7 @@ word_of k piece o = k.pieces + (k.start piece + o)
 
 -- the pass carries the number of its piece and of the word that it fills next
 abbrev pub Carries : View → ℕ → ℕ → Type 0
-Carries v piece next = MatchOption v.held (Unit {0})
+Carries v piece next = MatchOption v.stored (Unit {0})
     (λ i. (piece ≡ i) × MatchOption v.table_key (Unit {0})
     (λ key. (i < (shape_of key).pieces) × (next ≡ word_of (shape_of key) i v.filled)))
 
@@ -26,7 +26,7 @@ pub record OpenTable : Type 0 where
   pub table : TableId
   pub table_key : TableKey
   -- how many marks there is memory for
-  pub room : ℕ
+  pub workspace : ℕ
 
 -- the parts of a table fit one another
 pub record IsOpenTable (words slots : ℕ) (key table_key : TableKey) (marks : List ℕ) : Type 0 where

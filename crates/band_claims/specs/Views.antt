@@ -28,7 +28,7 @@ is_hand i (Some j) = one_if (i == j)
 
 -- 1 where the view holds the piece, else 0
 abbrev pub holds : ℕ → View → ℕ
-holds i v = is_hand i v.held
+holds i v = is_hand i v.stored
 
 abbrev pub publishes : ℕ → View → ℕ
 publishes i v = times i v.published
@@ -49,12 +49,12 @@ abbrev pub newcomer : TableKey → View
 newcomer key =
     record {
       table_key = Some key;
-      held = None;
+      stored = None;
       filled = 0;
       published = [];
       seen = [];
       looked = [];
-      told = [];
+      reported = [];
       share = 0 ∷ [];
     }
 
@@ -62,12 +62,12 @@ abbrev pub spent : View
 spent =
     record {
       table_key = None;
-      held = None;
+      stored = None;
       filled = 0;
       published = [];
       seen = [];
       looked = [];
-      told = [];
+      reported = [];
       share = [];
     }
 
@@ -76,12 +76,12 @@ abbrev pub looked_at : ℕ → ℕ → View → View
 looked_at i n v =
     record {
       table_key = v.table_key;
-      held = v.held;
+      stored = v.stored;
       filled = v.filled;
       published = v.published;
       seen = (if n == 2 then v.seen ++ i ∷ [] else v.seen);
       looked = v.looked ++ look i n ∷ [];
-      told = v.told ++ look i n ∷ [];
+      reported = v.reported ++ look i n ∷ [];
       share = v.share;
     }
 
@@ -90,22 +90,22 @@ abbrev pub claimed : ℕ → ℕ → View → View
 claimed i n v =
     if n == 0 then record {
       table_key = v.table_key;
-      held = Some i;
+      stored = Some i;
       filled = 0;
       published = v.published;
       seen = v.seen;
       looked = [];
-      told = v.told ++ look i 1 ∷ [];
+      reported = v.reported ++ look i 1 ∷ [];
       share = v.share;
     }
     else record {
       table_key = v.table_key;
-      held = v.held;
+      stored = v.stored;
       filled = v.filled;
       published = v.published;
       seen = v.seen;
       looked = v.looked ++ look i n ∷ [];
-      told = v.told ++ look i n ∷ [];
+      reported = v.reported ++ look i n ∷ [];
       share = v.share;
     }
 
@@ -114,12 +114,12 @@ abbrev pub put : View → View
 put v =
     record {
       table_key = v.table_key;
-      held = v.held;
+      stored = v.stored;
       filled = v.filled + 1;
       published = v.published;
       seen = v.seen;
       looked = v.looked;
-      told = v.told;
+      reported = v.reported;
       share = v.share;
     }
 
@@ -128,12 +128,12 @@ abbrev pub finished : ℕ → View → View
 finished i v =
     record {
       table_key = v.table_key;
-      held = None;
+      stored = None;
       filled = 0;
       published = v.published ++ i ∷ [];
       seen = v.seen;
       looked = [];
-      told = v.told ++ look i 2 ∷ [];
+      reported = v.reported ++ look i 2 ∷ [];
       share = v.share;
     }
 
@@ -143,12 +143,12 @@ abbrev pub parted : Bool → View → View
 parted works v =
     record {
       table_key = v.table_key;
-      held = v.held;
+      stored = v.stored;
       filled = v.filled;
       published = v.published;
       seen = v.seen;
       looked = v.looked;
-      told = v.told;
+      reported = v.reported;
       share = (if works then halved v.share else v.share);
     }
 
@@ -157,12 +157,12 @@ abbrev pub branched : Bool → View → View
 branched works v =
     record {
       table_key = v.table_key;
-      held = None;
+      stored = None;
       filled = 0;
       published = [];
       seen = v.seen ++ v.published;
       looked = [];
-      told = v.told;
+      reported = v.reported;
       share = (if works then halved v.share else []);
     }
 
@@ -170,45 +170,45 @@ abbrev pub joined : View → View → View
 joined v w =
     record {
       table_key = v.table_key;
-      held = v.held;
+      stored = v.stored;
       filled = v.filled;
       published = v.published ++ w.published;
       seen = v.seen ++ w.seen;
       looked = v.looked;
-      told = v.told;
+      reported = v.reported;
       share = v.share ++ w.share;
     }
 
 -- w is v after some loads of pieces' words
 pub record Looks (v w : View) : Type 0 where
   pub same_table_key : w.table_key ≡ v.table_key
-  pub same_held : w.held ≡ v.held
+  pub same_stored : w.stored ≡ v.stored
   pub same_filled : w.filled ≡ v.filled
   pub same_published : w.published ≡ v.published
   pub more_seen : (more : List ℕ) × (w.seen ≡ v.seen ++ more)
   pub more_looked : (more : List Look) × (w.looked ≡ v.looked ++ more)
-  pub more_told : (more : List Look) × (w.told ≡ v.told ++ more)
+  pub more_reported : (more : List Look) × (w.reported ≡ v.reported ++ more)
   pub same_share : w.share ≡ v.share
 
 -- the exchange won: w holds the piece, and knows each of its needs
 pub record Won (bands : Bands) (piece : ℕ) (v w : View) : Type 0 where
   pub same_table_key : w.table_key ≡ v.table_key
-  pub holding : w.held ≡ Some piece
+  pub holding : w.stored ≡ Some piece
   pub none_filled : w.filled ≡ 0
   pub same_published : w.published ≡ v.published
   pub more_seen : (more : List ℕ) × (w.seen ≡ v.seen ++ more)
   pub no_looks : w.looked ≡ []
-  pub more_told : (more : List Look) × (w.told ≡ v.told ++ more)
+  pub more_reported : (more : List Look) × (w.reported ≡ v.reported ++ more)
   pub same_share : w.share ≡ v.share
   pub known : (n : ℕ) → is_need bands piece n ≡ true → Knows w n
 
 -- why a claim fails: the last look found a need that is not done, or the piece itself not free
-abbrev pub Cause : Bands → ℕ → Look → Type 0
-Cause bands piece last = ((is_need bands piece last.piece ≡ true) × (last.word ≢ 2))
+abbrev pub Error : Bands → ℕ → Look → Type 0
+Error bands piece last = ((is_need bands piece last.piece ≡ true) × (last.word ≢ 2))
     ⊎ ((last.piece ≡ piece) × (last.word ≢ 0))
 
 pub record Lost (bands : Bands) (piece : ℕ) (v w : View) : Type 0 where
   pub looks : Looks v w
   pub last : Look
   pub found : (more : List Look) × (w.looked ≡ v.looked ++ (more ++ last ∷ []))
-  pub cause : Cause bands piece last
+  pub reason : Error bands piece last

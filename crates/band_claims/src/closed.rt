@@ -8,9 +8,9 @@ ghost use Rattle.band_claims.specs.Rule.{cell_word};
 
 use crate::pass::Pass;
 use crate::table_key::TableKey;
+use band_core::layout::Layout;
 use band_core::needs::pieces;
 use page_model::bands::Bands;
-use band_core::layout::Layout;
 use std::alloc::Global;
 use std::marker::Model;
 use std::snapshot::Snapshot;
@@ -40,9 +40,9 @@ impl Model for Closed {
       published = c.last.value.view.published;
       seen = c.last.value.view.seen;
       looked = c.last.value.view.looked;
-      told = c.last.value.view.told;
+      reported = c.last.value.view.reported;
       alone = marked 0 c.marks.items;
-      room = c.marks.cap;
+      workspace = c.marks.cap;
     } };
 
     ghost invariant = { λ c. IsFull c.table.words
@@ -117,8 +117,8 @@ impl Closed {
         ensures published { self.new.published ≡ self.old.published }
         ensures seen { self.new.seen ≡ self.old.seen }
         ensures looked { self.new.looked ≡ self.old.looked }
-        ensures told { self.new.told ≡ self.old.told }
-        ensures room { self.new.room ≡ self.old.room }
+        ensures reported { self.new.reported ≡ self.old.reported }
+        ensures workspace { self.new.workspace ≡ self.old.workspace }
     {
         self.table.words.put(piece as usize, 2);
         self.marks[piece as usize] = 1;

@@ -6,7 +6,7 @@ use crate::Pass;
 pub trait Gate {
     /// Called when the pass has claimed the piece and holds it.
     fn claimed(&self, pass: &Pass, piece: u32)
-        requires { pass.now.view.held ≡ Some piece };
+        requires { pass.now.view.stored ≡ Some piece };
 }
 
 /// A gate that does nothing.

@@ -3,7 +3,7 @@
 ghost use Rattle.std.specs.Prelude.{Bool};
 ghost use Rattle.band_claims.specs.declared.table_key.TableKey.{TableKey};
 ghost use Rattle.band_claims.specs.declared.view.View.{View};
-ghost use Rattle.band_claims.specs.Laws.{DoneStaysDone, EndsAreRuns, HeldOnce, KeepsRule, LooksArePast, LooksAreTold, LooksRise, PublishedOnce, StepsAreRun};
+ghost use Rattle.band_claims.specs.Laws.{DoneStaysDone, EndsAreRuns, StoredOnce, KeepsRule, LooksArePast, LooksAreReported, LooksRise, PublishedOnce, StepsAreRun};
 ghost use Rattle.band_claims.specs.Rule.{RuleOf};
 ghost use Rattle.band_claims.specs.Refuted.{LooksAreHonest, MayForge};
 ghost use Rattle.band_claims.specs.TableKeys.{IsFit, cell, shape_of};
@@ -12,8 +12,8 @@ ghost use Rattle.band_core.specs.Runs.{Sound};
 ghost use Rattle.band_core.specs.TableWords.{board_of};
 
 /// A claimed piece is held by exactly one view, and no other piece is held.
-pub fn held_once_law()
-    ensures { HeldOnce }
+pub fn stored_once_law()
+    ensures { StoredOnce }
 {}
 
 /// No list of published pieces has a piece twice, and no piece is in the lists of two views.
@@ -50,8 +50,8 @@ pub fn looks_are_past_law()
 {}
 
 /// The looks in a seat's view are the last ones of all that it was told.
-pub fn looks_are_told_law()
-    ensures { (key : TableKey) → IsFit key → LooksAreTold key }
+pub fn looks_are_reported_law()
+    ensures { (key : TableKey) → IsFit key → LooksAreReported key }
 {}
 
 /// Of two looks at one piece in a seat's view, the later one found no lesser word.

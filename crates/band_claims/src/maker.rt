@@ -17,9 +17,9 @@ pub trait Maker {
     ghost serves: { Self → TableKey → Type 0 };
 
     /// How much memory the maker has, as far as it is seen.
-    ghost Room: { Type 0 };
+    ghost Workspace: { Type 0 };
 
-    ghost room: { Self → Self.Room };
+    ghost workspace: { Self → Self.Workspace };
 
     /// Fills all cells of the piece that the pass holds.
     fn fill(&mut self, page: &Page, shared: &Shared, pass: &mut Pass, piece: u32)
@@ -27,7 +27,7 @@ pub trait Maker {
         requires serves { serves self.old shared.now.table_key }
         requires pass { Seats shared.now pass.old }
         requires piece { piece < pieces_of shared.now.table_key.layout.bands }
-        requires held { pass.old.view.held ≡ Some piece }
+        requires stored { pass.old.view.stored ≡ Some piece }
         requires none_filled { pass.old.view.filled ≡ 0 }
         requires known { (n : ℕ) → is_need shared.now.table_key.layout.bands piece n ≡ true
             → Knows pass.old.view n }
@@ -35,5 +35,5 @@ pub trait Maker {
         ensures pass { Seats shared.now pass.new }
         ensures filled { pass.new.view
             ≡ filled_to ((shape_of shared.now.table_key).size piece) pass.old.view }
-        ensures room { Self.room self.new ≡ Self.room self.old };
+        ensures workspace { Self.workspace self.new ≡ Self.workspace self.old };
 }

@@ -20,7 +20,7 @@ const SPAN: usize = 16;
 pub fn put_values<V: CellValue>(shared: &Shared, pass: &mut Pass, piece: u32, values: &[V])
     requires pass { Seats shared.now pass.old }
     requires piece { piece < pieces_of shared.now.table_key.layout.bands }
-    requires held { pass.old.view.held ≡ Some piece }
+    requires stored { pass.old.view.stored ≡ Some piece }
     requires none_filled { pass.old.view.filled ≡ 0 }
     requires values { AreValues shared.now.table_key piece (V.numbers values.now) }
     ensures pass { Seats shared.now pass.new }
@@ -45,7 +45,7 @@ fn put_cells<V: CellValue, const PHASE: u32>(
     requires pass { Seats shared.now pass.old }
     requires piece { piece < pieces_of shared.now.table_key.layout.bands }
     requires phase { PHASE ≡ phase_of shared.now.table_key.layout.bands piece }
-    requires held { pass.old.view.held ≡ Some piece }
+    requires stored { pass.old.view.stored ≡ Some piece }
     requires none_filled { pass.old.view.filled ≡ 0 }
     requires values { AreValues shared.now.table_key piece (V.numbers values.now) }
     ensures pass { Seats shared.now pass.new }
@@ -67,7 +67,7 @@ fn put_cells<V: CellValue, const PHASE: u32>(
 /// Stores these words, which are the defined values, in the next cells of the piece that the pass holds.
 fn put_words(shared: &Shared, pass: &mut Pass, piece: u32, words: &[u64])
     requires pass { Seats shared.now pass.old }
-    requires held { pass.old.view.held ≡ Some piece }
+    requires stored { pass.old.view.stored ≡ Some piece }
     requires inside { pass.old.view.filled + length words.now
         ≤ (shape_of shared.now.table_key).size piece }
     requires words { (k : ℕ) → k < length words.now → slice_index words.now k

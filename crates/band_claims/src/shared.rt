@@ -21,11 +21,11 @@ use crate::plays::{Claims, Finishes, Looks, Passes, Puts, Readers, Reads};
 use crate::table_key::TableKey;
 use crate::view::View;
 use atomic_table::{Seat, Table, TableRule};
+use band_core::layout::Layout;
 use band_core::needs::{need_at, need_count, pieces};
 use lists::names::OutOfMemory;
 use page_model::bands::Bands;
 use page_model::page::Page;
-use band_core::layout::Layout;
 use std::alloc::Global;
 use std::marker::Model;
 use std::snapshot::Snapshot;
@@ -57,7 +57,7 @@ impl Model for Shared {
     ghost view = { λ s. record {
       table = s.table.shared.table_id;
       table_key = s.table.shared.key;
-      room = s.marks.cap;
+      workspace = s.marks.cap;
     } };
 
     ghost invariant = { λ s. IsOpenTable s.table.shared.table_id.words
@@ -72,7 +72,7 @@ fn open_table(alloc: Global, table_key: &TableKey) -> Result<(Words, Seat<(), Vi
     ensures words { IfOk result (λ t. t.0.shared.table_id.words
         ≡ (shape_of table_key.now).pieces + (shape_of table_key.now).cells) }
     ensures slots { IfOk result (λ t. t.0.shared.table_id.slots ≡ 0) }
-    ensures told { IfOk result (λ t. t.0.shared.key ≡ table_key.now) }
+    ensures reported { IfOk result (λ t. t.0.shared.key ≡ table_key.now) }
     ensures seat { IfOk result (λ t.
         (t.1.table_id ≡ t.0.shared.table_id) × (t.1.me ≡ (newcomer table_key.now, []))) }
 {
@@ -163,7 +163,7 @@ impl Shared {
     pub fn claim(&self, pass: &mut Pass, piece: u32) -> bool
         requires pass { Seats self.now pass.old }
         requires piece { piece < pieces_of self.now.table_key.layout.bands }
-        requires idle { pass.old.view.held ≡ None }
+        requires idle { pass.old.view.stored ≡ None }
         ensures pass { Seats self.now pass.new }
         ensures won { IsTrue result
             → Won self.now.table_key.layout.bands piece pass.old.view pass.new.view }
@@ -185,7 +185,7 @@ impl Shared {
     fn take(&self, pass: &mut Pass, piece: u32) -> bool
         requires pass { Seats self.now pass.old }
         requires piece { piece < pieces_of self.now.table_key.layout.bands }
-        requires idle { pass.old.view.held ≡ None }
+        requires idle { pass.old.view.stored ≡ None }
         requires known { (n : ℕ) → is_need self.now.table_key.layout.bands piece n ≡ true
             → Knows pass.old.view n }
         ensures pass { Seats self.now pass.new }
@@ -207,7 +207,7 @@ impl Shared {
     /// Stores the defined value of the next cell of the held piece.
     pub fn put_cell(&self, pass: &mut Pass, value: u64)
         requires pass { Seats self.now pass.old }
-        requires next { (piece : ℕ) × (pass.old.view.held ≡ Some piece)
+        requires next { (piece : ℕ) × (pass.old.view.stored ≡ Some piece)
             × (pass.old.view.filled < (shape_of self.now.table_key).size piece)
             × (value ≡ cell self.now.table_key
             ((shape_of self.now.table_key).start piece + pass.old.view.filled)) }
@@ -223,10 +223,10 @@ impl Shared {
     /// Publishes the held piece, all of whose cells are filled: stores 2 in its word.
     pub fn finish(&self, pass: &mut Pass)
         requires pass { Seats self.now pass.old }
-        requires full { (piece : ℕ) × (pass.old.view.held ≡ Some piece)
+        requires full { (piece : ℕ) × (pass.old.view.stored ≡ Some piece)
             × (pass.old.view.filled ≡ (shape_of self.now.table_key).size piece) }
         ensures pass { Seats self.now pass.new }
-        ensures finished { (piece : ℕ) × (pass.old.view.held ≡ Some piece)
+        ensures finished { (piece : ℕ) × (pass.old.view.stored ≡ Some piece)
             × (pass.new.view ≡ finished piece pass.old.view) }
         ensures fair { IsFair (pieces_of self.now.table_key.layout.bands) pass.new.view }
     {
@@ -269,7 +269,7 @@ impl Shared {
     /// Each has half of the share.
     pub fn split(&self, pass: Pass) -> (Pass, Pass)
         requires pass { Seats self.now pass }
-        requires idle { pass.view.held ≡ None }
+        requires idle { pass.view.stored ≡ None }
         ensures first { Seats self.now result.0 }
         ensures second { Seats self.now result.1 }
         ensures kept { result.0.view ≡ parted true pass.view }
@@ -288,7 +288,7 @@ impl Shared {
     /// A seat that only reads, and knows what the pass knows. The pass stays unchanged.
     pub fn reader(&self, pass: &mut Pass) -> Reader
         requires pass { Seats self.now pass.old }
-        requires idle { pass.old.view.held ≡ None }
+        requires idle { pass.old.view.stored ≡ None }
         ensures pass { pass.new ≡ pass.old }
         ensures reader { Seats self.now result }
         ensures new { result.view ≡ branched false pass.old.view }
@@ -331,8 +331,8 @@ impl Shared {
     pub fn join(&self, one: Pass, two: Pass) -> Pass
         requires one { Seats self.now one }
         requires two { Seats self.now two }
-        requires one_idle { one.view.held ≡ None }
-        requires two_idle { two.view.held ≡ None }
+        requires one_idle { one.view.stored ≡ None }
+        requires two_idle { two.view.stored ≡ None }
         ensures pass { Seats self.now result }
         ensures joined { result.view ≡ joined one.view two.view }
     {
@@ -351,7 +351,7 @@ impl Shared {
     /// piece is left claimed.
     pub fn close_all(self, pass: Pass) -> Closed
         requires pass { Seats self pass }
-        requires idle { pass.view.held ≡ None }
+        requires idle { pass.view.stored ≡ None }
         ensures table_key { result.table_key ≡ self.table_key }
         ensures sound { Sound (shape_of result.table_key) (cell result.table_key)
             (board_of (shape_of result.table_key) result.words) }
@@ -361,7 +361,7 @@ impl Shared {
         ensures published { result.published ≡ pass.view.published }
         ensures seen { result.seen ≡ pass.view.seen }
         ensures looked { result.looked ≡ pass.view.looked }
-        ensures told { result.told ≡ pass.view.told }
+        ensures reported { result.reported ≡ pass.view.reported }
         ensures done { (i : ℕ) → Knows pass.view i → piece_word result.words i ≡ 2 }
         ensures whole { IsWhole pass.view.share → (i : ℕ) → times i result.published
             ≡ one_if (nat_lt i (pieces_of result.table_key.layout.bands)
@@ -370,7 +370,7 @@ impl Shared {
             → i < pieces_of result.table_key.layout.bands → piece_word result.words i ≢ 1 }
         ensures once { (i : ℕ) → times i result.published ≤ 1 }
         ensures alone { result.alone ≡ [] }
-        ensures room { result.room ≡ self.room }
+        ensures workspace { result.workspace ≡ self.workspace }
     {
         let last = Snapshot::of(&pass);
         let Shared {

@@ -1,6 +1,6 @@
 // What the table is given when it is made.
-use page_model::page::Page;
 use band_core::layout::Layout;
+use page_model::page::Page;
 use std::snapshot::Snapshot;
 
 /// The page, as clauses see it, with the layout of its cells in its bands.

@@ -26,9 +26,9 @@ fn visit<M: Maker, G: Gate>(
     requires maker { M.serves maker.old shared.now.table_key }
     requires pass { Seats shared.now pass.old }
     requires piece { piece < pieces_of shared.now.table_key.layout.bands }
-    requires idle { pass.old.view.held ≡ None }
+    requires idle { pass.old.view.stored ≡ None }
     ensures maker { M.serves maker.new shared.now.table_key }
-    ensures room { M.room maker.new ≡ M.room maker.old }
+    ensures workspace { M.workspace maker.new ≡ M.workspace maker.old }
     ensures pass { Seats shared.now pass.new }
     ensures made { IsTrue result → Made piece pass.old.view pass.new.view }
     ensures fair { IsTrue result
@@ -56,13 +56,13 @@ fn walk<M: Maker, G: Gate>(
     requires page { page.now ≡ shared.now.table_key.page.value }
     requires maker { M.serves maker.old shared.now.table_key }
     requires pass { Seats shared.now pass.old }
-    requires idle { pass.old.view.held ≡ None }
+    requires idle { pass.old.view.stored ≡ None }
     ensures maker { M.serves maker.new shared.now.table_key }
-    ensures room { M.room maker.new ≡ M.room maker.old }
+    ensures workspace { M.workspace maker.new ≡ M.workspace maker.old }
     ensures pass { Seats shared.now pass.new }
-    ensures idle { pass.new.view.held ≡ None }
+    ensures idle { pass.new.view.stored ≡ None }
     ensures published { Publishes pass.old.view pass.new.view }
-    ensures told { Recalls pass.old.view pass.new.view }
+    ensures reported { Recalls pass.old.view pass.new.view }
     ensures share { pass.new.view.share ≡ pass.old.view.share }
     ensures few { IsTrue result
         → length pass.new.view.published ≤ pieces_of shared.now.table_key.layout.bands }
@@ -94,13 +94,13 @@ pub fn work<M: Maker, G: Gate>(
     requires page { page.now ≡ shared.now.table_key.page.value }
     requires maker { M.serves maker.old shared.now.table_key }
     requires pass { Seats shared.now pass }
-    requires idle { pass.view.held ≡ None }
+    requires idle { pass.view.stored ≡ None }
     ensures maker { M.serves maker.new shared.now.table_key }
-    ensures room { M.room maker.new ≡ M.room maker.old }
+    ensures workspace { M.workspace maker.new ≡ M.workspace maker.old }
     ensures pass { Seats shared.now result }
-    ensures idle { result.view.held ≡ None }
+    ensures idle { result.view.stored ≡ None }
     ensures published { Publishes pass.view result.view }
-    ensures told { Recalls pass.view result.view }
+    ensures reported { Recalls pass.view result.view }
     ensures share { result.view.share ≡ pass.view.share }
     ensures accounted { (i : ℕ) → i < pieces_of shared.now.table_key.layout.bands
         → IsAccounted shared.now.table_key.layout.bands result.view i }
@@ -128,11 +128,11 @@ pub fn work_many<R: Threads + Sync, M: Maker + Send, G: Gate + Sync>(
     requires makers { All (λ m. M.serves m shared.now.table_key) makers.old }
     requires some { 1 ≤ length makers.old }
     requires pass { Seats shared.now pass }
-    requires idle { pass.view.held ≡ None }
+    requires idle { pass.view.stored ≡ None }
     ensures pass { Seats shared.now result }
-    ensures idle { result.view.held ≡ None }
+    ensures idle { result.view.stored ≡ None }
     ensures published { Publishes pass.view result.view }
-    ensures told { Recalls pass.view result.view }
+    ensures reported { Recalls pass.view result.view }
     ensures share { SameShare pass.view.share result.view.share }
     ensures accounted { (i : ℕ) → i < pieces_of shared.now.table_key.layout.bands
         → IsAccounted shared.now.table_key.layout.bands result.view i }
@@ -151,11 +151,11 @@ pub fn work_many<R: Threads + Sync, M: Maker + Send, G: Gate + Sync>(
             requires makers { All (λ m. M.serves m shared.now.table_key) left.now }
             requires some { 1 ≤ length left.now }
             requires pass { Seats shared.now one }
-            requires idle { one.view.held ≡ None }
+            requires idle { one.view.stored ≡ None }
             ensures pass { Seats shared.entry.now result }
-            ensures idle { result.view.held ≡ None }
+            ensures idle { result.view.stored ≡ None }
             ensures published { Publishes one.view result.view }
-            ensures told { Recalls one.view result.view }
+            ensures reported { Recalls one.view result.view }
             ensures share { SameShare one.view.share result.view.share }
             ensures accounted { (i : ℕ) → i < pieces_of shared.entry.now.table_key.layout.bands
                 → IsAccounted shared.entry.now.table_key.layout.bands result.view i }
@@ -165,9 +165,9 @@ pub fn work_many<R: Threads + Sync, M: Maker + Send, G: Gate + Sync>(
             requires makers { All (λ m. M.serves m shared.now.table_key) right.now }
             requires some { 1 ≤ length right.now }
             requires pass { Seats shared.now two }
-            requires idle { two.view.held ≡ None }
+            requires idle { two.view.stored ≡ None }
             ensures pass { Seats shared.entry.now result }
-            ensures idle { result.view.held ≡ None }
+            ensures idle { result.view.stored ≡ None }
             ensures share { SameShare two.view.share result.view.share }
             ensures accounted { (i : ℕ) → i < pieces_of shared.entry.now.table_key.layout.bands
                 → IsAccounted shared.entry.now.table_key.layout.bands result.view i }

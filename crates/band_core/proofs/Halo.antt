@@ -18,7 +18,7 @@ use Rattle.band_core.specs.TableShapes.{Has}
 use Rattle.band_core.specs.Boards.{Board, cell_at, is_done}
 use Rattle.band_core.specs.Runs.{Sound, Halo}
 use Rattle.band_core.specs.Values.{IsFor, row_value, row_of, place_of, value, cell}
-use Rattle.band_core.specs.Recipe.{held, unpacked, value_by, HoldsNeeds, recipe}
+use Rattle.band_core.specs.Recipe.{stored, unpacked, value_by, HoldsNeeds, recipe}
 use Rattle.band_core.specs.Laws.{PhaseLaw}
 use Rattle.band_core.proofs.Shapes.{is_shape, has_cell}
 use Rattle.band_core.proofs.Cells.{cell_same, cell_inside, unpacked_is}
@@ -94,8 +94,8 @@ module _ (page : PageParts) (layout : Layout) (is : IsFor page layout) (board : 
       unpacked_is layout (value page layout) board n k l m (λ h q. value_fits page (phase_of layout.bands n) (row_of layout n h) (place_of layout n h) is.valid few early)
       (done_cell n (first_cell_of layout n + k / lanes_of (phase_of layout.bands n)) (record { piece = l; from = c.from; below = c.below }) d)
 
-  holds : (i : ℕ) → i < piece_count layout → ((n : ℕ) → is_need layout.bands i n ≡ true → is_done board n ≡ true) → HoldsNeeds page layout (held layout board) i
-  unfolding held
+  holds : (i : ℕ) → i < piece_count layout → ((n : ℕ) → is_need layout.bands i n ≡ true → is_done board n ≡ true) → HoldsNeeds page layout (stored layout board) i
+  unfolding stored
   holds i l done phase y o need inside along =
       let h : ℕ = layout.bands.height in let per : ℕ = per_row layout phase in let b : ℕ = y / h in
       let n : ℕ = piece_of layout.bands phase b in let k : ℕ = y % h * per + o in
@@ -112,5 +112,5 @@ module _ (page : PageParts) (layout : Layout) (is : IsFor page layout) (board : 
 
 pub halo : (page : PageParts) (layout : Layout) → IsFor page layout → Halo (shape_of layout) (cell page layout) (recipe page layout)
 halo page layout is = λ board r i j h done.
-    cell_same layout (value_by page layout (held layout board)) (value page layout) i j h.piece (has_cell layout i j h)
-    (λ k l. each_phase (phase_of layout.bands i) (phase-less layout.bands i h.piece) page layout is (held layout board) i k h.piece refl l (holds page layout is board r i h.piece done))
+    cell_same layout (value_by page layout (stored layout board)) (value page layout) i j h.piece (has_cell layout i j h)
+    (λ k l. each_phase (phase_of layout.bands i) (phase-less layout.bands i h.piece) page layout is (stored layout board) i k h.piece refl l (holds page layout is board r i h.piece done))

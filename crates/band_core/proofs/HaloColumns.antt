@@ -51,8 +51,8 @@ pub column_same : (page : PageParts) (bands : Bands) (read : Reading) (x2 y : �
     → ((r o : ℕ) → near_bands bands (band_of_row bands r) (band_of_row bands y) ≡ true → r < height page → o < width page → read 1 r o ≡ mark page r o)
     → column_by page bands read (band_of_row bands y) x2 y ≡ column_edge page bands.reach2 x2 y
 unfolding column_by column_edge
-column_same page bands read x2 y some held =
+column_same page bands read x2 y some stored =
     first_least-same (λ y2. gap y2 (2 * y)) (λ y2. (near_bands bands (band_of_row bands (y2 / 2)) (band_of_row bands y) && marked_by page read x2 y2) && nat_le (gap y2 (2 * y)) bands.reach2)
     (λ y2. edge_decides page x2 y2 && nat_le (gap y2 (2 * y)) bands.reach2) (grid_rows page)
     (λ y2 l. guarded (near_bands bands (band_of_row bands (y2 / 2)) (band_of_row bands y)) (marked_by page read x2 y2) (edge_decides page x2 y2) (nat_le (gap y2 (2 * y)) bands.reach2)
-    (λ g. within_halo bands y y2 some (leb-true _ _ g)) (λ near. marked_same page read x2 y2 (λ across down. held (y2 / 2) (x2 / 2) near down across)))
+    (λ g. within_halo bands y y2 some (leb-true _ _ g)) (λ near. marked_same page read x2 y2 (λ across down. stored (y2 / 2) (x2 / 2) near down across)))

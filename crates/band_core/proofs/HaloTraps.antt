@@ -37,14 +37,14 @@ tells_of page reach x2 y code few e = code_tells page reach x2 y code (column_ed
 -- the answers of the sample's row
 pub edge_same : (page : PageParts) (read : Reading) (reach : ℕ) (p : At) → reach ≤ 256 → ((x2 : ℕ) → x2 < 2 * width page - 1 → read 2 p.y x2 ≡ column_answer page reach x2 p.y) → edge_by page read p ≡ column_decider page reach p
 unfolding edge_by column_decider
-edge_same page read reach p few held =
+edge_same page read reach p few stored =
     first_least-mapped (λ x2. d2 p (arm_by read p.y x2)) (λ x2. d2 p (answer_edge page reach p.y x2)) (λ x2. nat_lt 0 (read 2 p.y x2)) (λ x2. is_answer (column_edge page reach x2 p.y)) (2 * width page - 1)
-    (λ x2 l. (told x2 l).some) (λ x2 l t. ap (d2 p) (arm x2 l t)) (arm_by read p.y) (answer_edge page reach p.y) arm where
-      told : (x2 : ℕ) → x2 < 2 * width page - 1 → Tells p.y (read 2 p.y x2) (column_edge page reach x2 p.y)
-      told x2 l = tells_of page reach x2 p.y (read 2 p.y x2) few (held x2 l)
+    (λ x2 l. (reported x2 l).some) (λ x2 l t. ap (d2 p) (arm x2 l t)) (arm_by read p.y) (answer_edge page reach p.y) arm where
+      reported : (x2 : ℕ) → x2 < 2 * width page - 1 → Tells p.y (read 2 p.y x2) (column_edge page reach x2 p.y)
+      reported x2 l = tells_of page reach x2 p.y (read 2 p.y x2) few (stored x2 l)
 
       arm : (x2 : ℕ) → x2 < 2 * width page - 1 → is_answer (column_edge page reach x2 p.y) ≡ true → arm_by read p.y x2 ≡ answer_edge page reach p.y x2
-      arm x2 l t = let e = (told x2 l).edge t in (λ i. record { x2 = x2; y2 = e i })
+      arm x2 l t = let e = (reported x2 l).edge t in (λ i. record { x2 = x2; y2 = e i })
 
 tint_same : (page : PageParts) (zone : ℕ) (p : At) (c : ℕ) (o : Option EdgeAt) → zone ≡ zone_of page p → tint_by page zone p c o ≡ new_from page p c o
 tint_same page zone p c None z = refl
@@ -53,7 +53,7 @@ tint_same page zone p c (Some e) z = ap (λ (n : ℕ). new_in page n p e c) z
 -- the zone of the sample and the answers of its row
 pub new_same : (page : PageParts) (read : Reading) (p : At) (c : ℕ) → IsPage page → page_reach page ≤ 256 → read 0 p.y p.x ≡ zone_of page p → ((x2 : ℕ) → x2 < 2 * width page - 1 → read 2 p.y x2 ≡ column_answer page (page_reach page) x2 p.y)
     → tint_by page (zone_by read p) p c (edge_by page read p) ≡ new page p c
-new_same page read p c valid few zone held =
+new_same page read p c valid few zone stored =
     tint_same page (zone_by read p) p c (edge_by page read p) zone
-    ∙ (ap (new_from page p c) (edge_same page read (page_reach page) p few held)
+    ∙ (ap (new_from page p c) (edge_same page read (page_reach page) p few stored)
     ∙ (traps_by_columns page p valid).tints_alike c)

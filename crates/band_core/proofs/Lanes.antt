@@ -46,8 +46,8 @@ under bits vs is few h =
     let t : 2 ^ (bits * length vs) ≤ 2 ^ 62 = pow-le-pow_right (omega arith) (few_bits bits (length vs) is few) in omega (arith, small bits vs h, t)
 
 -- the next sum
-pub room : (bits j : ℕ) (vs : List ℕ) → IsBits bits → length vs ≤ lanes bits → All (λ v. v < 2 ^ bits) vs → j < length vs → packed bits (drop (j + 1) vs) * 2 ^ bits + slice_index vs j < 2 ^ 62
-room bits j vs is few h l = omega (arith, under bits vs is few h, drop_le bits j vs, step_at bits j vs l, mul_comm (packed bits (drop (j + 1) vs)) (2 ^ bits))
+pub workspace : (bits j : ℕ) (vs : List ℕ) → IsBits bits → length vs ≤ lanes bits → All (λ v. v < 2 ^ bits) vs → j < length vs → packed bits (drop (j + 1) vs) * 2 ^ bits + slice_index vs j < 2 ^ 62
+workspace bits j vs is few h l = omega (arith, under bits vs is few h, drop_le bits j vs, step_at bits j vs l, mul_comm (packed bits (drop (j + 1) vs)) (2 ^ bits))
 
 -- the sum so far times the base, and the next value, are small
 pub next_small : (sum base j bits : ℕ) (vs : List ℕ) → IsBits bits → length vs ≤ lanes bits → All (λ v. v < 2 ^ bits) vs → 0 < j → j ≤ length vs → sum ≡ packed bits (drop j vs) → base ≡ 2 ^ bits
@@ -56,7 +56,7 @@ next_small sum base j bits vs is few h some within so_far same =
     let e : j - 1 + 1 ≡ j = omega (arith, some) in
     let here : sum ≡ packed bits (drop (j - 1 + 1) vs) = so_far ∙ ap (λ (k : ℕ). packed bits (drop k vs)) (sym e) in
     let product : sum * base ≡ packed bits (drop (j - 1 + 1) vs) * 2 ^ bits = (λ i. here i * same i) in
-    omega (arith, room bits (j - 1) vs is few h (omega (arith, some, within)), product)
+    omega (arith, workspace bits (j - 1) vs is few h (omega (arith, some, within)), product)
 
 -- the next sum is that of one more value
 pub next_sum : (sum base j bits x : ℕ) (vs : List ℕ) → 0 < j → j ≤ length vs → sum ≡ packed bits (drop j vs) → base ≡ 2 ^ bits → x ≡ slice_index vs (j - 1) → sum * base + x ≡ packed bits (drop (j - 1) vs)

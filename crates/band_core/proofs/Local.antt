@@ -70,18 +70,18 @@ marked_alike page read other x2 y2 here =
 column_alike : (page : PageParts) (bands : Bands) (read other : Reading) (band x2 y : ℕ) → ((r o : ℕ) → near_bands bands (band_of_row bands r) band ≡ true → r < height page → o < width page → read 1 r o ≡ other 1 r o)
     → column_by page bands read band x2 y ≡ column_by page bands other band x2 y
 unfolding column_by
-column_alike page bands read other band x2 y held =
+column_alike page bands read other band x2 y stored =
     first_least-same (λ y2. gap y2 (2 * y)) (λ y2. (near_bands bands (band_of_row bands (y2 / 2)) band && marked_by page read x2 y2) && nat_le (gap y2 (2 * y)) bands.reach2)
     (λ y2. (near_bands bands (band_of_row bands (y2 / 2)) band && marked_by page other x2 y2) && nat_le (gap y2 (2 * y)) bands.reach2) (grid_rows page)
-    (λ y2 l. ap (λ (b : Bool). b && nat_le (gap y2 (2 * y)) bands.reach2) (and_same (near_bands bands (band_of_row bands (y2 / 2)) band) (marked_by page read x2 y2) (marked_by page other x2 y2) (λ near. marked_alike page read other x2 y2 (λ across down. held (y2 / 2) (x2 / 2) near down across))))
+    (λ y2 l. ap (λ (b : Bool). b && nat_le (gap y2 (2 * y)) bands.reach2) (and_same (near_bands bands (band_of_row bands (y2 / 2)) band) (marked_by page read x2 y2) (marked_by page other x2 y2) (λ near. marked_alike page read other x2 y2 (λ across down. stored (y2 / 2) (x2 / 2) near down across))))
 
 edge_alike : (page : PageParts) (read other : Reading) (p : At) → ((x2 : ℕ) → x2 < 2 * width page - 1 → read 2 p.y x2 ≡ other 2 p.y x2) → edge_by page read p ≡ edge_by page other p
 unfolding edge_by
-edge_alike page read other p held =
+edge_alike page read other p stored =
     first_least-mapped (λ x2. d2 p (arm_by read p.y x2)) (λ x2. d2 p (arm_by other p.y x2)) (λ x2. nat_lt 0 (read 2 p.y x2)) (λ x2. nat_lt 0 (other 2 p.y x2)) (2 * width page - 1)
-    (λ x2 l. ap (nat_lt 0) (held x2 l)) (λ x2 l t. ap (d2 p) (arm x2 l)) (arm_by read p.y) (arm_by other p.y) (λ x2 l t. arm x2 l) where
+    (λ x2 l. ap (nat_lt 0) (stored x2 l)) (λ x2 l t. ap (d2 p) (arm x2 l)) (arm_by read p.y) (arm_by other p.y) (λ x2 l t. arm x2 l) where
       arm : (x2 : ℕ) → x2 < 2 * width page - 1 → arm_by read p.y x2 ≡ arm_by other p.y x2
-      arm x2 l = let e = held x2 l in (λ i. record { x2 = x2; y2 = 2 * p.y + e i - 257 })
+      arm x2 l = let e = stored x2 l in (λ i. record { x2 = x2; y2 = 2 * p.y + e i - 257 })
 
 abbrev Alike : PageParts → Layout → Reading → Reading → ℕ → ℕ → ℕ → ℕ → Type 0
 Alike page layout read other i phase y o = row_by page layout.bands read phase (band_of layout.bands i) y o ≡ row_by page layout.bands other phase (band_of layout.bands i) y o

@@ -12,7 +12,7 @@ use Rattle.band_core.specs.Shapes.{shape_of}
 use Rattle.band_core.specs.TableShapes.{Has}
 use Rattle.band_core.specs.Boards.{Board, cell_at}
 use Rattle.band_core.specs.Values.{IsFor, row_of, place_of}
-use Rattle.band_core.specs.Recipe.{held, unpacked, value_by, AgreeOnNeeds}
+use Rattle.band_core.specs.Recipe.{stored, unpacked, value_by, AgreeOnNeeds}
 use Rattle.band_core.specs.Laws.{ReadsNeedsAlone}
 use Rattle.band_core.proofs.Cells.{cell_same, cell_inside}
 use Rattle.band_core.proofs.Halo.{lies, number_below}
@@ -23,9 +23,9 @@ unpacked_alike : (layout : Layout) (board other : Board) (n k : ℕ) → cell_at
 unfolding unpacked
 unpacked_alike layout board other n k e = ap (λ (c : ℕ). lane (bits_of (phase_of layout.bands n)) (c - 1) (k % lanes_of (phase_of layout.bands n))) e
 
-held_alike : (page : PageParts) (layout : Layout) (board other : Board) (i : ℕ) → IsFor page layout → i < piece_count layout → ((n h : ℕ) → is_need layout.bands i n ≡ true → Has (shape_of layout) n h → cell_at board h ≡ cell_at other h) → AgreeOnNeeds page layout (held layout board) (held layout other) i
-unfolding held
-held_alike page layout board other i is l same phase y o need inside along =
+stored_alike : (page : PageParts) (layout : Layout) (board other : Board) (i : ℕ) → IsFor page layout → i < piece_count layout → ((n h : ℕ) → is_need layout.bands i n ≡ true → Has (shape_of layout) n h → cell_at board h ≡ cell_at other h) → AgreeOnNeeds page layout (stored layout board) (stored layout other) i
+unfolding stored
+stored_alike page layout board other i is l same phase y o need inside along =
     let h : ℕ = layout.bands.height in let per : ℕ = per_row layout phase in let b : ℕ = y / h in
     let n : ℕ = piece_of layout.bands phase b in let k : ℕ = y % h * per + o in
     let bands = is.made.bands in let tall = is.tall in
@@ -39,6 +39,6 @@ held_alike page layout board other i is l same phase y o need inside along =
 
 pub reads_needs_alone : (page : PageParts) (layout : Layout) → IsFor page layout → ReadsNeedsAlone page layout
 reads_needs_alone page layout is = λ board other i j h same.
-    cell_same layout (value_by page layout (held layout board)) (value_by page layout (held layout other)) i j h.piece (has_cell layout i j h)
+    cell_same layout (value_by page layout (stored layout board)) (value_by page layout (stored layout other)) i j h.piece (has_cell layout i j h)
     (λ k l. let s = lies page layout i k is l in
-    row_alike page layout is (held layout board) (held layout other) i (row_of layout i k) (held_alike page layout board other i is h.piece same) s.inside s.here (phase_of layout.bands i) refl (phase-less layout.bands i h.piece) (place_of layout i k) s.along)
+    row_alike page layout is (stored layout board) (stored layout other) i (row_of layout i k) (stored_alike page layout board other i is h.piece same) s.inside s.here (phase_of layout.bands i) refl (phase-less layout.bands i h.piece) (place_of layout i k) s.along)

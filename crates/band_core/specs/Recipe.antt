@@ -36,8 +36,8 @@ unpacked layout board i k =
     (k % lanes_of phase)
 
 -- what the board's cells hold of a phase at place o of row y
-unfoldable pub held : Layout → Board → Reading
-held layout board phase y o = unpacked layout board
+unfoldable pub stored : Layout → Board → Reading
+stored layout board phase y o = unpacked layout board
     (piece_of layout.bands phase (band_of_row layout.bands y))
     (y % layout.bands.height * per_row layout phase + o)
 
@@ -96,7 +96,7 @@ value_by page layout read i k = row_by page layout.bands read (phase_of layout.b
 
 -- the local recipe
 abbrev pub recipe : PageParts → Layout → Board → ℕ → ℕ
-recipe page layout board j = cell_of layout (value_by page layout (held layout board)) j
+recipe page layout board j = cell_of layout (value_by page layout (stored layout board)) j
 
 -- two readings agree on all that piece i needs
 abbrev pub AgreeOnNeeds : PageParts → Layout → Reading → Reading → ℕ → Type 0

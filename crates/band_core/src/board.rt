@@ -6,13 +6,13 @@ ghost use Rattle.band_core.specs.Recipe.{recipe};
 ghost use Rattle.band_core.specs.Shapes.{shape_of};
 ghost use Rattle.band_core.specs.Values.{IsFor, cell};
 
-use crate::looks::{any_empty, any_lacks, any_takes};
 use crate::event::Event;
-use crate::state::State;
+use crate::layout::Layout;
+use crate::looks::{any_empty, any_lacks, any_takes};
 use crate::needs::pieces;
+use crate::state::State;
 use lists::names::OutOfMemory;
 use page_model::bands::Bands;
-use crate::layout::Layout;
 use std::alloc::Global;
 use std::marker::Model;
 

@@ -3,9 +3,9 @@ ghost use Rattle.band_core.specs.Places.{piece_count, cells_of};
 ghost use Rattle.band_core.specs.Boards.{lacks_in, empty_in, hand_in};
 ghost use Rattle.band_core.specs.Shapes.{shape_of};
 
-use crate::state::State;
-use crate::needs::{need_at, need_count, pieces};
 use crate::layout::Layout;
+use crate::needs::{need_at, need_count, pieces};
+use crate::state::State;
 
 /// Whether some need of a piece is not done.
 pub(crate) fn any_lacks(layout: &Layout, states: &[State], piece: u32) -> bool

@@ -30,7 +30,7 @@ pub record FillsUpTo (before after : Receipt) (piece n : ℕ) : Type 0 where
 pub filled_none : (r : Receipt) (piece : ℕ) → FillsUpTo r r piece 0
 filled_none r piece = record {
   table_key = refl;
-  lists = record { published = refl; seen = refl; looked = refl; told = refl; left = refl; room = refl };
+  lists = record { published = refl; seen = refl; looked = refl; reported = refl; left = refl; workspace = refl };
   alone = refl;
   long = refl;
   states = λ i l. refl;
@@ -41,7 +41,7 @@ filled_none r piece = record {
 pub filled_more : (before now after : Receipt) (piece o : ℕ) → IsFit before.table_key → length before.words ≡ (shape_of before.table_key).pieces + (shape_of before.table_key).cells → Has (shape_of before.table_key) piece (first_cell_of before.table_key.layout piece + o) → FillsUpTo before now piece o → FillsTo now after piece o → FillsUpTo before after piece (o + 1)
 filled_more before now after piece o fit wide has f s = record {
   table_key = s.table_key ∙ f.table_key;
-  lists = record { published = s.lists.published ∙ f.lists.published; seen = s.lists.seen ∙ f.lists.seen; looked = s.lists.looked ∙ f.lists.looked; told = s.lists.told ∙ f.lists.told; left = s.lists.left ∙ f.lists.left; room = s.lists.room ∙ f.lists.room };
+  lists = record { published = s.lists.published ∙ f.lists.published; seen = s.lists.seen ∙ f.lists.seen; looked = s.lists.looked ∙ f.lists.looked; reported = s.lists.reported ∙ f.lists.reported; left = s.lists.left ∙ f.lists.left; workspace = s.lists.workspace ∙ f.lists.workspace };
   alone = s.alone ∙ f.alone;
   long = ap length words ∙ (length-set now.words place value ∙ f.long);
   states = λ i l. other i (λ e. omega (arith, e, l)) ∙ f.states i l;

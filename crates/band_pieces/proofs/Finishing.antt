@@ -26,10 +26,10 @@ use Rattle.band_pieces.specs.Finished.{IsFinished, WasLeft}
 use Rattle.band_pieces.proofs.Filling.{HasCellsOf}
 
 same_lists : (r : Receipt) → KeepsLists r r
-same_lists r = record { published = refl; seen = refl; looked = refl; told = refl; left = refl; room = refl }
+same_lists r = record { published = refl; seen = refl; looked = refl; reported = refl; left = refl; workspace = refl }
 
 then_lists : (a b c : Receipt) → KeepsLists a b → KeepsLists b c → KeepsLists a c
-then_lists a b c f s = record { published = s.published ∙ f.published; seen = s.seen ∙ f.seen; looked = s.looked ∙ f.looked; told = s.told ∙ f.told; left = s.left ∙ f.left; room = s.room ∙ f.room }
+then_lists a b c f s = record { published = s.published ∙ f.published; seen = s.seen ∙ f.seen; looked = s.looked ∙ f.looked; reported = s.reported ∙ f.reported; left = s.left ∙ f.left; workspace = s.workspace ∙ f.workspace }
 
 -- the needs of a piece are done where all pieces before it are
 pub needs_known : (closed : Receipt) (layout : Layout) (piece n : ℕ) → IsFit closed.table_key → layout ≡ closed.table_key.layout → piece < pieces_of closed.table_key.layout.bands → ((i : ℕ) → i < piece → piece_word closed.words i ≡ 2) → DoneHaveCells closed → is_need layout.bands piece n ≡ true → HasCells closed n
@@ -195,10 +195,10 @@ pub finished_has_cells : (page : PageParts) (receipt : Receipt) → IsFinished p
 finished_has_cells page receipt f i = has_cells receipt f.fit f.cells i
 
 -- what making the rest alone leaves of the run
-abbrev pub was_left : (before after : Receipt) (v : View) → Ends before.table_key before.words v → before.left ≡ before.words → v.held ≡ None → ((i : ℕ) → i < (shape_of before.table_key).pieces → piece_word before.words i ≢ 1)
-    → after.table_key ≡ before.table_key → after.left ≡ before.left → after.published ≡ v.published → after.seen ≡ v.seen → after.looked ≡ v.looked → after.told ≡ v.told
+abbrev pub was_left : (before after : Receipt) (v : View) → Ends before.table_key before.words v → before.left ≡ before.words → v.stored ≡ None → ((i : ℕ) → i < (shape_of before.table_key).pieces → piece_word before.words i ≢ 1)
+    → after.table_key ≡ before.table_key → after.left ≡ before.left → after.published ≡ v.published → after.seen ≡ v.seen → after.looked ≡ v.looked → after.reported ≡ v.reported
     → ((i : ℕ) → times i after.alone ≡ one_if (nat_lt i (pieces_of before.table_key.layout.bands) && not (piece_word before.words i == 2))) → WasLeft after
-was_left before after v e closed idle settled same left published seen looked told alone = let words : after.left ≡ before.words = left ∙ closed in record {
+was_left before after v e closed idle settled same left published seen looked reported alone = let words : after.left ≡ before.words = left ∙ closed in record {
   kinds = e.kinds;
   left = e.last;
   steps = subst (λ (z : TableKey). Steps z e.kinds e.last) (sym same) e.steps;
@@ -209,7 +209,7 @@ was_left before after v e closed idle settled same left published seen looked to
   published = sym published;
   seen = sym seen;
   looked = sym looked;
-  told = sym told;
+  reported = sym reported;
   idle = idle;
   settled = λ i l one. settled i (subst (λ (z : TableKey). i < (shape_of z).pieces) same l) (ap (λ (ws : List ℕ). piece_word ws i) (sym words) ∙ one);
   alone = λ i. alone i ∙ (ap (λ (z : TableKey). one_if (nat_lt i (shape_of z).pieces && not (piece_word before.words i == 2))) (sym same) ∙ ap (λ (ws : List ℕ). one_if (nat_lt i (shape_of after.table_key).pieces && not (piece_word ws i == 2))) (sym words));

@@ -8,10 +8,10 @@ use Rattle.band_claims.specs.TableKeys.{cell, shape_of}
 use Rattle.band_claims.specs.Views.{Knows}
 use Rattle.band_claims.proofs.Steps.{fit_shape, steps_are_run}
 use Rattle.band_claims.proofs.Readable.{kept}
-use Rattle.band_claims.proofs.Past.{looks_are_past, looks_are_told as run_looks_are_told, looks_rise}
+use Rattle.band_claims.proofs.Past.{looks_are_past, looks_are_reported as run_looks_are_reported, looks_rise}
 use Rattle.band_claims.specs.Accounts.{Shows}
 use Rattle.band_pieces.specs.Finished.{IsFinished}
-use Rattle.band_pieces.specs.Left.{LeftForNeeds, FirstAreDone, LooksAreTold}
+use Rattle.band_pieces.specs.Left.{LeftForNeeds, FirstAreDone, LooksAreReported}
 
 -- a word is 0, 1 or 2
 word_zero : (n : ℕ) → n ≤ 2 → n ≢ 1 → n ≢ 2 → n ≡ 0
@@ -36,7 +36,7 @@ left_for_needs page receipt f i l undone =
     absurd (omega (arith, done, was, free)))
     (λ (h : Shows key.layout.bands f.run.view i).
     let past = looks_are_past key f.fit run.kinds run.left run.steps run.seat run.view run.sees h.before h.after h.shown h.stands in
-    elim h.cause [
+    elim h.reason [
       | inl need ↦ record { before = h.before; shown = h.shown; after = h.after; stands = sym run.looked ∙ h.stands; need = need.0; not_done = need.1 }
       | inr own ↦ absurd (own.1 (let e = ap (piece_word run.left.words) own.0 in omega (arith, past, e, was, free)))
     ])
@@ -48,11 +48,11 @@ first_are_done page receipt f i l none = elim (cases_eq (piece_word receipt.left
   | inr undone ↦ absurd (let t = left_for_needs page receipt f i l undone in none t.shown.piece t.need)
 ]
 
-pub looks_are_told : LooksAreTold
-looks_are_told page receipt f =
+pub looks_are_reported : LooksAreReported
+looks_are_reported page receipt f =
     let run = f.run in
-    let ends = run_looks_are_told receipt.table_key f.fit run.kinds run.left run.steps run.seat run.view run.sees in record {
+    let ends = run_looks_are_reported receipt.table_key f.fit run.kinds run.left run.steps run.seat run.view run.sees in record {
       earlier = ends.0;
-      looks = sym run.told ∙ (ends.1 ∙ ap (λ z. ends.0 ++ z) run.looked);
-      rise = λ before mid after shown later stands. looks_rise receipt.table_key f.fit run.kinds run.left run.steps run.seat run.view run.sees before mid after shown later (run.told ∙ stands);
+      looks = sym run.reported ∙ (ends.1 ∙ ap (λ z. ends.0 ++ z) run.looked);
+      rise = λ before mid after shown later stands. looks_rise receipt.table_key f.fit run.kinds run.left run.steps run.seat run.view run.sees before mid after shown later (run.reported ∙ stands);
     }

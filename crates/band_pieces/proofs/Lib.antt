@@ -1,7 +1,7 @@
 pub mod Cells
 pub mod Filling
 pub mod Finishing
-pub mod Held
+pub mod Stored
 pub mod Looked
 pub mod Needed
 pub mod RowPieces

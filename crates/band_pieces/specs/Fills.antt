@@ -17,9 +17,9 @@ pub record KeepsLists (before after : Receipt) : Type 0 where
   pub published : after.published ≡ before.published
   pub seen : after.seen ≡ before.seen
   pub looked : after.looked ≡ before.looked
-  pub told : after.told ≡ before.told
+  pub reported : after.reported ≡ before.reported
   pub left : after.left ≡ before.left
-  pub room : after.room ≡ before.room
+  pub workspace : after.workspace ≡ before.workspace
 
 -- the cells of the piece have their defined values, and all else stays
 pub record FillsPiece (before after : Receipt) (piece : ℕ) : Type 0 where

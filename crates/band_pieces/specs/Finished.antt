@@ -26,8 +26,8 @@ pub record WasLeft (receipt : Receipt) : Type 0 where
   pub published : view.published ≡ receipt.published
   pub seen : view.seen ≡ receipt.seen
   pub looked : view.looked ≡ receipt.looked
-  pub told : view.told ≡ receipt.told
-  pub idle : view.held ≡ None
+  pub reported : view.reported ≡ receipt.reported
+  pub idle : view.stored ≡ None
   pub settled : (i : ℕ) → i < (shape_of receipt.table_key).pieces → piece_word receipt.left i ≢ 1
   pub alone : (i : ℕ) → times i receipt.alone
       ≡ one_if (nat_lt i (shape_of receipt.table_key).pieces && not (piece_word receipt.left i == 2))

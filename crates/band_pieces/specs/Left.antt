@@ -34,10 +34,10 @@ FirstAreDone = (page : PageParts) (receipt : Receipt) → (f : IsFinished page r
 -- one piece the later one is no less
 pub record TellsTruly (receipt : Receipt) : Type 0 where
   pub earlier : List Look
-  pub looks : receipt.told ≡ earlier ++ receipt.looked
+  pub looks : receipt.reported ≡ earlier ++ receipt.looked
   pub rise : (before mid after : List Look) (shown later : Look)
-      → receipt.told ≡ before ++ shown ∷ (mid ++ later ∷ after) → later.piece ≡ shown.piece
+      → receipt.reported ≡ before ++ shown ∷ (mid ++ later ∷ after) → later.piece ≡ shown.piece
       → shown.word ≤ later.word
 
-abbrev pub LooksAreTold : Type 0
-LooksAreTold = (page : PageParts) (receipt : Receipt) → IsFinished page receipt → TellsTruly receipt
+abbrev pub LooksAreReported : Type 0
+LooksAreReported = (page : PageParts) (receipt : Receipt) → IsFinished page receipt → TellsTruly receipt

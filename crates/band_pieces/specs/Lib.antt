@@ -1,6 +1,6 @@
 pub mod Fills
 pub mod Finished
 pub mod Left
-pub mod Room
+pub mod Workspace
 pub mod Spans
 pub mod Undone

@@ -59,9 +59,9 @@ pub fn finish_alone(closed: &mut Closed, page: &Page, scratch: &mut Scratch)
     ensures published_stays { closed.new.published ≡ closed.old.published }
     ensures seen_stays { closed.new.seen ≡ closed.old.seen }
     ensures looked_stays { closed.new.looked ≡ closed.old.looked }
-    ensures told_stays { closed.new.told ≡ closed.old.told }
+    ensures reported_stays { closed.new.reported ≡ closed.old.reported }
     ensures left_stays { closed.new.left ≡ closed.old.left }
-    ensures room_stays { closed.new.room ≡ closed.old.room }
+    ensures workspace_stays { closed.new.workspace ≡ closed.old.workspace }
 {
     let _whole = closed.table_key();
     let count = pieces(closed.bands());

@@ -4,8 +4,8 @@ ghost use Rattle.std.specs.Prelude.{◌≡◌, ℕ, ◌*◌, ◌<◌, ◌≤◌,
 ghost use Rattle.band_claims.specs.TableKeys.{IsFit};
 ghost use Rattle.band_core.specs.Values.{IsFor};
 ghost use Rattle.band_core.specs.Needs.{is_need};
-ghost use Rattle.band_pieces.specs.Room.{IsRoom, most_rows};
-ghost use Rattle.row_values.specs.Room.{Serves};
+ghost use Rattle.band_pieces.specs.Workspace.{IsWorkspace, most_rows};
+ghost use Rattle.row_values.specs.Workspace.{Serves};
 ghost use Rattle.page_model.specs.Bands.{phase_of, pieces_of};
 ghost use Rattle.page_model.specs.Columns.{halo};
 ghost use Rattle.band_core.specs.Places.{per_row};
@@ -13,9 +13,9 @@ ghost use Rattle.band_core.specs.Places.{per_row};
 use crate::rows::read_rows;
 use crate::sinks::CellSink;
 use crate::spans::{rows_below, rows_near, rows_of};
-use page_model::page::Page;
 use band_core::layout::Layout;
-use row_values::{Workspace, make_answers, make_marks, make_tints, make_zones};
+use page_model::page::Page;
+use row_values::{RowBuffers, make_answers, make_marks, make_tints, make_zones};
 
 /// The zones of a band, from the page alone.
 pub(crate) fn fill_zones<S, C: CellSink<S>>(
@@ -25,7 +25,7 @@ pub(crate) fn fill_zones<S, C: CellSink<S>>(
     layout: &Layout,
     piece: u32,
     zones: &mut [u8],
-    room: &mut Workspace,
+    workspace: &mut RowBuffers,
 )
     requires page { page.now ≡ (C.table_key table.now seat.old).page.value }
     requires layout { layout.now ≡ (C.table_key table.now seat.old).layout }
@@ -35,15 +35,15 @@ pub(crate) fn fill_zones<S, C: CellSink<S>>(
     requires phase { phase_of layout.now.bands piece ≡ 0 }
     requires may { C.may_fill table.now seat.old piece }
     requires zones { most_rows layout.now 0 * per_row layout.now 0 ≤ length zones.old }
-    requires room { Serves room.old page.now }
+    requires workspace { Serves workspace.old page.now }
     ensures filled { C.filled table.now seat.old seat.new piece }
     ensures zones { length zones.new ≡ length zones.old }
-    ensures room { room.new ≡ room.old }
+    ensures workspace { workspace.new ≡ workspace.old }
 {
     let rows = rows_of(layout.bands(), piece);
     let count = rows.count as usize * layout.row_values(0) as usize;
     let zones = &mut zones[..count];
-    make_zones(page, rows, zones, room);
+    make_zones(page, rows, zones, workspace);
     table.put_values(seat, piece, zones);
 }
 
@@ -73,12 +73,12 @@ pub(crate) fn fill_marks<S, C: CellSink<S>>(
     ensures marks { length marks.new ≡ length marks.old }
 {
     let rows = rows_of(layout.bands(), piece);
-    let held = rows_below(layout.bands(), rows);
+    let stored = rows_below(layout.bands(), rows);
     let wide = layout.row_values(0) as usize;
-    let zones = &mut zones[..held.count as usize * wide];
-    read_rows(table, seat, layout, 0, held, zones);
+    let zones = &mut zones[..stored.count as usize * wide];
+    read_rows(table, seat, layout, 0, stored, zones);
     let marks = &mut marks[..rows.count as usize * wide];
-    make_marks(page, rows, held, zones, marks);
+    make_marks(page, rows, stored, zones, marks);
     table.put_values(seat, piece, marks);
 }
 
@@ -109,11 +109,11 @@ pub(crate) fn fill_answers<S, C: CellSink<S>>(
     ensures answers { length answers.new ≡ length answers.old }
 {
     let rows = rows_of(layout.bands(), piece);
-    let held = rows_near(layout.bands(), rows);
-    let marks = &mut marks[..held.count as usize * layout.row_values(1) as usize];
-    read_rows(table, seat, layout, 1, held, marks);
+    let stored = rows_near(layout.bands(), rows);
+    let marks = &mut marks[..stored.count as usize * layout.row_values(1) as usize];
+    read_rows(table, seat, layout, 1, stored, marks);
     let answers = &mut answers[..rows.count as usize * layout.row_values(2) as usize];
-    make_answers(page, rows, held, marks, answers);
+    make_answers(page, rows, stored, marks, answers);
     table.put_values(seat, piece, answers);
 }
 
@@ -127,7 +127,7 @@ pub(crate) fn fill_tints<S, C: CellSink<S>>(
     zones: &mut [u8],
     answers: &mut [u16],
     tints: &mut [u16],
-    room: &mut Workspace,
+    workspace: &mut RowBuffers,
 )
     requires page { page.now ≡ (C.table_key table.now seat.old).page.value }
     requires layout { layout.now ≡ (C.table_key table.now seat.old).layout }
@@ -141,12 +141,12 @@ pub(crate) fn fill_tints<S, C: CellSink<S>>(
     requires zones { most_rows layout.now 0 * per_row layout.now 0 ≤ length zones.old }
     requires answers { most_rows layout.now 0 * per_row layout.now 2 ≤ length answers.old }
     requires tints { most_rows layout.now 0 * per_row layout.now 3 ≤ length tints.old }
-    requires room { Serves room.old page.now }
+    requires workspace { Serves workspace.old page.now }
     ensures filled { C.filled table.now seat.old seat.new piece }
     ensures zones { length zones.new ≡ length zones.old }
     ensures answers { length answers.new ≡ length answers.old }
     ensures tints { length tints.new ≡ length tints.old }
-    ensures room { room.new ≡ room.old }
+    ensures workspace { workspace.new ≡ workspace.old }
 {
     let rows = rows_of(layout.bands(), piece);
     let count = rows.count as usize;
@@ -155,7 +155,7 @@ pub(crate) fn fill_tints<S, C: CellSink<S>>(
     let answers = &mut answers[..count * layout.row_values(2) as usize];
     read_rows(table, seat, layout, 2, rows, answers);
     let tints = &mut tints[..count * layout.row_values(3) as usize];
-    make_tints(page, rows, zones, answers, tints, room);
+    make_tints(page, rows, zones, answers, tints, workspace);
     table.put_values(seat, piece, tints);
 }
 
@@ -170,7 +170,7 @@ pub(crate) fn fill<S, C: CellSink<S>>(
     marks: &mut [u8],
     answers: &mut [u16],
     tints: &mut [u16],
-    room: &mut Workspace,
+    workspace: &mut RowBuffers,
 )
     requires page { page.now ≡ (C.table_key table.now seat.old).page.value }
     requires layout { layout.now ≡ (C.table_key table.now seat.old).layout }
@@ -179,21 +179,21 @@ pub(crate) fn fill<S, C: CellSink<S>>(
     requires may { C.may_fill table.now seat.old piece }
     requires known { (n : ℕ) → is_need layout.now.bands piece n ≡ true
         → C.knows table.now seat.old n }
-    requires room { IsRoom layout.now room.old (length zones.old) (length marks.old)
+    requires workspace { IsWorkspace layout.now workspace.old (length zones.old) (length marks.old)
         (length answers.old) (length tints.old) }
     ensures filled { C.filled table.now seat.old seat.new piece }
     ensures zones { length zones.new ≡ length zones.old }
     ensures marks { length marks.new ≡ length marks.old }
     ensures answers { length answers.new ≡ length answers.old }
     ensures tints { length tints.new ≡ length tints.old }
-    ensures room { room.new ≡ room.old }
+    ensures workspace { workspace.new ≡ workspace.old }
 {
     match piece / layout.bands().count {
-        0 => fill_zones(table, seat, page, layout, piece, zones, room),
+        0 => fill_zones(table, seat, page, layout, piece, zones, workspace),
         1 => fill_marks(table, seat, page, layout, piece, zones, marks),
         2 => fill_answers(table, seat, page, layout, piece, marks, answers),
         _ => fill_tints(
-            table, seat, page, layout, piece, zones, answers, tints, room,
+            table, seat, page, layout, piece, zones, answers, tints, workspace,
         ),
     }
 }

@@ -8,8 +8,8 @@ ghost use Rattle.page_model.specs.Tints.{new};
 
 use crate::rows::{read_plate_row, read_rows};
 use crate::sources::CellSource;
-use page_model::page::Page;
 use band_core::layout::Layout;
+use page_model::page::Page;
 use row_values::Rows;
 
 /// Reads the zones of these rows from the cells of their bands.

@@ -41,12 +41,12 @@ pub fn finish_table(shared: Shared, pass: Pass, page: &Page, scratch: &mut Scrat
     requires scratch { scratch.old.layout ≡ shared.table_key.layout }
     requires pass { Seats shared pass }
     requires whole { IsWhole pass.view.share }
-    requires idle { pass.view.held ≡ None }
+    requires idle { pass.view.stored ≡ None }
     requires accounted { (i : ℕ) → i < pieces_of shared.table_key.layout.bands
         → IsAccounted shared.table_key.layout.bands pass.view i }
     ensures scratch { scratch.new ≡ scratch.old }
     ensures table_key { result.table_key ≡ shared.table_key }
-    ensures room { result.room ≡ shared.room }
+    ensures workspace { result.workspace ≡ shared.workspace }
     ensures finished { IsFinished page.now result }
 {
     let _fits = shared.bands();

@@ -8,8 +8,8 @@ ghost use Rattle.band_core.specs.Places.{bits_of, per_row};
 
 use crate::reading::{Run, read_values};
 use crate::sources::CellSource;
-use band_core::needs::piece;
 use band_core::layout::Layout;
+use band_core::needs::piece;
 use band_core::values::CellValue;
 use row_values::Rows;
 

@@ -7,18 +7,17 @@ ghost use Rattle.band_claims.specs.Filled.{filled_to};
 ghost use Rattle.page_model.specs.Bands.{AreBands, pieces_of};
 ghost use Rattle.page_model.specs.Page.{height, plates, width};
 ghost use Rattle.page_model.specs.Reach.{page_reach};
-ghost use Rattle.band_pieces.specs.Room.{Memory};
+ghost use Rattle.band_pieces.specs.Workspace.{Memory};
 
 use crate::fills::fill;
 use crate::sinks::CellSink;
-use band_claims::{Pass, Shared};
-use band_claims::Maker;
+use band_claims::{Maker, Pass, Shared};
+use band_core::layout::Layout;
 use lists::memory::vec_of;
 use page_model::bands::Bands;
 use page_model::page::Page;
 use page_model::parts::OutOfMemory;
-use band_core::layout::Layout;
-use row_values::Workspace;
+use row_values::RowBuffers;
 use std::alloc::Global;
 use std::marker::Model;
 
@@ -32,12 +31,12 @@ pub struct Scratch {
     marks: Vec<u8>,
     answers: Vec<u16>,
     tints: Vec<u16>,
-    room: Workspace,
+    workspace: RowBuffers,
 }
 
 impl Model for Scratch {
     ghost use Rattle.std.specs.Prelude.{vec_capacity, vec_len};
-    ghost use Rattle.band_pieces.specs.Room.{IsRoom, Memory};
+    ghost use Rattle.band_pieces.specs.Workspace.{IsWorkspace, Memory};
 
     ghost Value = { Memory };
 
@@ -47,10 +46,10 @@ impl Model for Scratch {
       marks = vec_capacity s.marks;
       answers = vec_capacity s.answers;
       tints = vec_capacity s.tints;
-      room = s.room;
+      workspace = s.workspace;
     } };
 
-    ghost invariant = { λ s. IsRoom s.layout s.room (vec_len s.zones) (vec_len s.marks)
+    ghost invariant = { λ s. IsWorkspace s.layout s.workspace (vec_len s.zones) (vec_len s.marks)
         (vec_len s.answers) (vec_len s.tints) };
 }
 
@@ -73,7 +72,7 @@ impl Scratch {
             marks: vec_of(alloc, 0u8, (near * layout.row_values(1)) as usize)?,
             answers: vec_of(alloc, 0u16, (band * layout.row_values(2)) as usize)?,
             tints: vec_of(alloc, 0u16, (band * layout.row_values(3)) as usize)?,
-            room: Workspace::new(alloc, page)?,
+            workspace: RowBuffers::new(alloc, page)?,
         })
     }
 
@@ -105,7 +104,7 @@ impl Scratch {
             self.marks.as_mut_slice(),
             self.answers.as_mut_slice(),
             self.tints.as_mut_slice(),
-            &mut self.room,
+            &mut self.workspace,
         );
     }
 }
@@ -113,16 +112,16 @@ impl Scratch {
 impl Maker for Scratch {
     ghost serves = { λ scratch table_key. scratch.layout ≡ table_key.layout };
 
-    ghost Room = { Memory };
+    ghost Workspace = { Memory };
 
-    ghost room = { λ scratch. scratch };
+    ghost workspace = { λ scratch. scratch };
 
     fn fill(&mut self, page: &Page, shared: &Shared, pass: &mut Pass, piece: u32)
         requires page { page.now ≡ shared.now.table_key.page.value }
         requires serves { self.old.layout ≡ shared.now.table_key.layout }
         requires pass { Seats shared.now pass.old }
         requires piece { piece < pieces_of shared.now.table_key.layout.bands }
-        requires held { pass.old.view.held ≡ Some piece }
+        requires stored { pass.old.view.stored ≡ Some piece }
         requires none_filled { pass.old.view.filled ≡ 0 }
         requires known { (n : ℕ) → is_need shared.now.table_key.layout.bands piece n ≡ true
             → Knows pass.old.view n }
@@ -130,7 +129,7 @@ impl Maker for Scratch {
         ensures pass { Seats shared.now pass.new }
         ensures filled { pass.new.view
             ≡ filled_to ((shape_of shared.now.table_key).size piece) pass.old.view }
-        ensures room { self.new ≡ self.old }
+        ensures workspace { self.new ≡ self.old }
     {
         let _fits = shared.bands();
         self.fill_piece(shared, pass, page, piece);

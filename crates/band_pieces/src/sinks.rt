@@ -31,7 +31,7 @@ pub(crate) trait CellSink<S>: CellSource<S> {
 
 impl CellSink<Pass> for Shared {
     ghost may_fill = { λ shared pass piece. Seats shared pass
-        × (pass.view.held ≡ Some piece) × (pass.view.filled ≡ 0) };
+        × (pass.view.stored ≡ Some piece) × (pass.view.filled ≡ 0) };
 
     ghost filled = { λ shared before after piece. Seats shared after
         × (after.view ≡ filled_to ((shape_of shared.table_key).size piece) before.view) };

@@ -2,9 +2,9 @@ ghost use Rattle.std.specs.Prelude.{◌≡◌};
 
 use band_core::Event;
 use band_core::board::Board;
+use band_core::layout::Layout;
 use band_core::needs::pieces;
 use page_model::bands::Bands;
-use band_core::layout::Layout;
 use std::alloc::Global;
 use std::test::Fail;
 

@@ -1,6 +1,6 @@
-use page_model::bands::Bands;
 use band_core::layout::Layout;
 use band_core::packing::{pack, unpack};
+use page_model::bands::Bands;
 use std::test::Fail;
 
 /// Whether the pieces' first cells have these numbers, and there are `cells` cells, for a page in bands with a reach of

@@ -4,9 +4,8 @@ ghost use Rattle.page_model.specs.Bands.{pieces_of};
 
 use crate::expected::is_whole;
 use crate::tables::{bands_of, table, two_tiles};
-use band_claims::{Pass, Shared};
+use band_claims::{Maker, Pass, Shared};
 use band_pieces::{Scratch, are_all_done, finish_alone};
-use band_claims::Maker;
 use page_model::page::Page;
 use page_model::parts::OutOfMemory;
 use std::alloc::Global;
@@ -24,10 +23,10 @@ fn make_piece(
     requires scratch { scratch.old.layout ≡ shared.now.table_key.layout }
     requires pass { Seats shared.now pass.old }
     requires piece { piece < pieces_of shared.now.table_key.layout.bands }
-    requires idle { pass.old.view.held ≡ None }
+    requires idle { pass.old.view.stored ≡ None }
     ensures scratch { scratch.new ≡ scratch.old }
     ensures pass { Seats shared.now pass.new }
-    ensures idle { pass.new.view.held ≡ None }
+    ensures idle { pass.new.view.stored ≡ None }
 {
     if !shared.claim(pass, piece) {
         return false;
@@ -49,10 +48,10 @@ fn make_first(
     requires scratch { scratch.old.layout ≡ shared.now.table_key.layout }
     requires pass { Seats shared.now pass.old }
     requires count { count < pieces_of shared.now.table_key.layout.bands }
-    requires idle { pass.old.view.held ≡ None }
+    requires idle { pass.old.view.stored ≡ None }
     ensures scratch { scratch.new ≡ scratch.old }
     ensures pass { Seats shared.now pass.new }
-    ensures idle { pass.new.view.held ≡ None }
+    ensures idle { pass.new.view.stored ≡ None }
 {
     let mut all = true;
     for piece in 0..count {
@@ -73,7 +72,7 @@ fn leave_at(
     requires page { page.now ≡ shared.table_key.page.value }
     requires scratch { scratch.old.layout ≡ shared.table_key.layout }
     requires pass { Seats shared pass }
-    requires idle { pass.view.held ≡ None }
+    requires idle { pass.view.stored ≡ None }
     requires done { done < pieces_of shared.table_key.layout.bands }
 {
     let mut pass = pass;

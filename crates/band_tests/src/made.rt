@@ -6,9 +6,8 @@ ghost use Rattle.page_model.specs.Reach.{page_reach};
 
 use crate::expected::is_whole;
 use crate::tables::{bands_of, table, two_tiles};
-use band_claims::Closed;
+use band_claims::{Closed, OpenGate, work_many};
 use band_pieces::{Scratch, finish_table};
-use band_claims::{OpenGate, work_many};
 use lists::list::List;
 use lists::memory::push;
 use page_model::bands::Bands;

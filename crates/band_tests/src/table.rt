@@ -6,13 +6,13 @@ ghost use Rattle.band_claims.specs.Views.{newcomer};
 ghost use Rattle.band_tests.specs.OneColumn.{OneColumn};
 
 use band_claims::{Pass, Reader, Shared};
+use band_core::layout::Layout;
 use lists::list::List;
 use lists::memory::push;
 use lists::names::OutOfMemory;
 use page_model::bands::Bands;
 use page_model::page::Page;
 use page_model::parts::{Ink, InkKind, PageParts, Plane, TrapParams, Zone};
-use band_core::layout::Layout;
 use std::alloc::Global;
 use std::test::Fail;
 
@@ -87,10 +87,10 @@ fn make_zone(shared: &Shared, pass: &mut Pass, piece: u32)
     requires table_key { OneColumn shared.now.table_key }
     requires seats { Seats shared.now pass.old }
     requires piece { piece < 2 }
-    requires held { pass.old.view.held ≡ Some piece }
+    requires stored { pass.old.view.stored ≡ Some piece }
     requires none_filled { pass.old.view.filled ≡ 0 }
     ensures seats { Seats shared.now pass.new }
-    ensures idle { pass.new.view.held ≡ None }
+    ensures idle { pass.new.view.stored ≡ None }
 {
     shared.put_cell(pass, 1);
     shared.finish(pass);
@@ -101,9 +101,9 @@ fn claim_and_make(shared: &Shared, pass: &mut Pass, piece: u32) -> bool
     requires table_key { OneColumn shared.now.table_key }
     requires seats { Seats shared.now pass.old }
     requires piece { piece < 2 }
-    requires idle { pass.old.view.held ≡ None }
+    requires idle { pass.old.view.stored ≡ None }
     ensures seats { Seats shared.now pass.new }
-    ensures idle { pass.new.view.held ≡ None }
+    ensures idle { pass.new.view.stored ≡ None }
 {
     if shared.claim(pass, piece) {
         make_zone(shared, pass, piece);
@@ -118,7 +118,7 @@ fn both_zones(shared: &Shared, pass: &mut Pass) -> Option<[u64; 2]>
     requires table_key { OneColumn shared.now.table_key }
     requires seats { Seats shared.now pass.old }
     ensures seats { Seats shared.now pass.new }
-    ensures held { pass.new.view.held ≡ pass.old.view.held }
+    ensures stored { pass.new.view.stored ≡ pass.old.view.stored }
 {
     if !shared.is_done(pass, 0) || !shared.is_done(pass, 1) {
         return None;
@@ -144,7 +144,7 @@ fn read_zone_word(shared: &Shared, reader: &mut Reader) -> Option<u64>
 fn two_passes(shared: &Shared, pass: Pass) -> &'static str
     requires table_key { OneColumn shared.now.table_key }
     requires seats { Seats shared.now pass }
-    requires idle { pass.view.held ≡ None }
+    requires idle { pass.view.stored ≡ None }
 {
     let mut pass = pass;
     let mut reader = shared.reader(&mut pass);
@@ -188,7 +188,7 @@ fn two_passes(shared: &Shared, pass: Pass) -> &'static str
 fn closed_words(shared: Shared, pass: Pass) -> Option<[[u64; 4]; 2]>
     requires table_key { OneColumn shared.table_key }
     requires seats { Seats shared pass }
-    requires idle { pass.view.held ≡ None }
+    requires idle { pass.view.stored ≡ None }
 {
     let (mut one, two) = shared.split(pass);
     if !claim_and_make(&shared, &mut one, 0) {

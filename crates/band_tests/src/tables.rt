@@ -6,11 +6,11 @@ ghost use Rattle.page_model.specs.Page.{height as height_of, plates, width};
 ghost use Rattle.page_model.specs.Reach.{page_reach};
 
 use band_claims::{Pass, Shared};
+use band_core::layout::Layout;
 use page_model::bands::Bands;
 use page_model::page::Page;
 use page_model::parts::OutOfMemory;
 use page_source::sample::sample_page;
-use band_core::layout::Layout;
 use std::alloc::Global;
 
 /// Sixteen by eight samples: a tile of cyan beside a tile of black.
@@ -38,7 +38,7 @@ pub fn table(alloc: Global, page: &Page, bands: &Bands) -> Result<(Shared, Pass)
     requires rows { bands.now.rows ≡ height_of page.now }
     requires reach { bands.now.reach2 ≡ page_reach page.now }
     ensures pass { IfOk result (λ t. Seats t.0 t.1) }
-    ensures idle { IfOk result (λ t. t.1.view.held ≡ None) }
+    ensures idle { IfOk result (λ t. t.1.view.stored ≡ None) }
     ensures new { IfOk result (λ t. t.1.view ≡ newcomer t.0.table_key) }
     ensures page { IfOk result (λ t. t.0.table_key.page.value ≡ page.now) }
     ensures layout { IfOk result (λ t. t.0.table_key.layout

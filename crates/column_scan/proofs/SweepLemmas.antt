@@ -3,7 +3,7 @@ use Rattle.std.proofs.Common.{◌≡◌, ℕ, zero, suc, ◌+◌, ◌*◌, ◌-�
 use Rattle.std.specs.Option.{MatchOption}
 use Rattle.std.proofs.lemmas.Bool.{cases_eq, cases_Bool, false≢true}
 use Rattle.std.proofs.lemmas.Nat.{mul-add-lt}
-use Rattle.page_model.specs.Marks.{Marked, held_rows}
+use Rattle.page_model.specs.Marks.{Marked, stored_rows}
 use Rattle.column_scan.specs.Sweep.{passes, or_keep, last_below, first_before, row_edge, above_code, nearer_code, row_above, row_below, above_of, column_of}
 
 -- what the last number below n that passes is
@@ -56,13 +56,13 @@ below_from : (x2 r n : ℕ) (t : ℕ → Bool) (o : Option ℕ) → n ≤ 16384 
 below_from x2 r n t None low h = omega arith
 below_from x2 r n t (Some j) low h = (omega (arith, h.0), omega (arith, h.1))
 
-pub row_below-is : (m : Marked) (x2 r : ℕ) → r < held_rows m → NextFact (passes m x2) (r + x2 % 2) (held_rows m) (row_below m x2 r)
+pub row_below-is : (m : Marked) (x2 r : ℕ) → r < stored_rows m → NextFact (passes m x2) (r + x2 % 2) (stored_rows m) (row_below m x2 r)
 row_below-is m x2 r l =
-    let e : held_rows m - (held_rows m - (r + x2 % 2)) ≡ r + x2 % 2 = omega arith in
-    rw e at (first_before-is (passes m x2) (held_rows m) (held_rows m - (r + x2 % 2)) (omega arith))
+    let e : stored_rows m - (stored_rows m - (r + x2 % 2)) ≡ r + x2 % 2 = omega arith in
+    rw e at (first_before-is (passes m x2) (stored_rows m) (stored_rows m - (r + x2 % 2)) (omega arith))
 
-pub row_below-below : (m : Marked) (x2 r : ℕ) (o : Option ℕ) → held_rows m ≤ 16384 → r < held_rows m → o ≡ row_below m x2 r → MatchOption o (0 ≤ r) (λ j. (2 * r ≤ row_edge x2 j) × (j ≤ 16384))
-row_below-below m x2 r o low l e = rw e (below_from x2 r (held_rows m) (passes m x2) _ low (row_below-is m x2 r l))
+pub row_below-below : (m : Marked) (x2 r : ℕ) (o : Option ℕ) → stored_rows m ≤ 16384 → r < stored_rows m → o ≡ row_below m x2 r → MatchOption o (0 ≤ r) (λ j. (2 * r ≤ row_edge x2 j) × (j ≤ 16384))
+row_below-below m x2 r o low l e = rw e (below_from x2 r (stored_rows m) (passes m x2) _ low (row_below-is m x2 r l))
 
 code_fits : (x2 r reach : ℕ) (o : Option ℕ) → MatchOption o (0 ≤ r) (λ j. row_edge x2 j ≤ 2 * r) → above_code x2 r reach o ≤ 257
 code_fits x2 r reach None h = omega arith

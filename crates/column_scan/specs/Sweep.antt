@@ -2,7 +2,7 @@
 -- edge's offset.
 use Rattle.std.specs.Prelude.{◌≡◌, ℕ, zero, suc, ◌+◌, ◌-◌, ◌*◌, ◌%◌, ◌<◌, ◌≤◌, Bool, nat_le, List}
 use Rattle.std.specs.Prelude.{length, slice_index, Option, Some, None, if◌then◌else◌}
-use Rattle.page_model.specs.Marks.{Marked, held_rows, marked}
+use Rattle.page_model.specs.Marks.{Marked, stored_rows, marked}
 use Rattle.page_model.specs.Limits.{level_code}
 
 -- the Y of doubled column x2 in a row: on it where x2 is odd, below it where x2 is even
@@ -50,11 +50,11 @@ abbrev pub row_above : Marked → ℕ → ℕ → Option ℕ
 row_above m x2 r = last_below (passes m x2) (r + x2 % 2)
 
 abbrev pub row_below : Marked → ℕ → ℕ → Option ℕ
-row_below m x2 r = first_before (passes m x2) (held_rows m) (held_rows m - (r + x2 % 2))
+row_below m x2 r = first_before (passes m x2) (stored_rows m) (stored_rows m - (r + x2 % 2))
 
 -- the first deciding row from r on
 abbrev pub first_from : Marked → ℕ → ℕ → Option ℕ
-first_from m x2 r = first_before (passes m x2) (held_rows m) (held_rows m - r)
+first_from m x2 r = first_before (passes m x2) (stored_rows m) (stored_rows m - r)
 
 unfoldable pub above_of : Marked → ℕ → ℕ → ℕ → ℕ
 above_of m x2 reach r = above_code x2 r reach (row_above m x2 r)

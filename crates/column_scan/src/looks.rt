@@ -1,7 +1,7 @@
 // Looks at the marks of one doubled column, each counted as a step.
 
 ghost use Rattle.std.specs.Prelude.{◌≡◌, ◌≤◌, ◌<◌, ◌+◌, ◌*◌, ◌-◌};
-ghost use Rattle.page_model.specs.Marks.{held_rows};
+ghost use Rattle.page_model.specs.Marks.{stored_rows};
 ghost use Rattle.column_scan.specs.Sweep.{passes, or_keep, last_below, first_before, first_from, row_above, row_below};
 
 use page_model::marks::Marks;
@@ -12,7 +12,7 @@ use std::sync::ledger::Ledger;
 #[tactic(auto, unfolding(crate::specs::Sweep::passes))]
 pub(crate) fn decides<L: Ledger>(marks: &Marks, x2: u32, r: u32, steps: &mut Steps<L>) -> bool
     requires column { x2 + 2 ≤ 2 * marks.now.wide }
-    requires row { r < held_rows marks.now }
+    requires row { r < stored_rows marks.now }
     ensures decides { result ≡ passes marks.now x2 r }
     ensures step { steps.new ≡ steps.old + 1 }
 {
@@ -31,7 +31,7 @@ fn row_or_keep<L: Ledger>(
     steps: &mut Steps<L>,
 ) -> Option<u32>
     requires column { x2 + 2 ≤ 2 * marks.now.wide }
-    requires row { r < held_rows marks.now }
+    requires row { r < stored_rows marks.now }
     ensures seen { result ≡ or_keep (passes marks.now x2 r) r keep }
     ensures step { steps.new ≡ steps.old + 1 }
 {
@@ -52,7 +52,7 @@ pub(crate) fn last_before<L: Ledger>(
     steps: &mut Steps<L>,
 ) -> Option<u32>
     requires column { x2 + 2 ≤ 2 * marks.now.wide }
-    requires first { first ≤ held_rows marks.now }
+    requires first { first ≤ stored_rows marks.now }
     ensures last { result ≡ last_below (passes marks.now x2) first }
     ensures steps { steps.new ≡ steps.old + first }
 {
@@ -71,15 +71,15 @@ pub(crate) fn first_after<L: Ledger>(
     steps: &mut Steps<L>,
 ) -> Option<u32>
     requires column { x2 + 2 ≤ 2 * marks.now.wide }
-    requires end { end ≤ held_rows marks.now }
+    requires end { end ≤ stored_rows marks.now }
     ensures next { result
-        ≡ first_before (passes marks.now x2) (held_rows marks.now) (held_rows marks.now - end) }
-    ensures steps { steps.new + end ≡ steps.old + held_rows marks.now }
+        ≡ first_before (passes marks.now x2) (stored_rows marks.now) (stored_rows marks.now - end) }
+    ensures steps { steps.new + end ≡ steps.old + stored_rows marks.now }
 {
     let mut next = None;
-    let held = marks.rows();
-    for k in 0..held - end {
-        next = row_or_keep(marks, x2, held - (k + 1), next, steps);
+    let stored = marks.rows();
+    for k in 0..stored - end {
+        next = row_or_keep(marks, x2, stored - (k + 1), next, steps);
     }
     next
 }
@@ -100,7 +100,7 @@ pub(crate) fn pass_down<L: Ledger>(
     steps: &mut Steps<L>,
 ) -> Passed
     requires column { x2 + 2 ≤ 2 * marks.now.wide }
-    requires row { r < held_rows marks.now }
+    requires row { r < stored_rows marks.now }
     requires last { last ≡ last_below (passes marks.now x2) r }
     ensures shown { result.shown ≡ row_above marks.now x2 r }
     ensures kept { result.kept ≡ last_below (passes marks.now x2) (r + 1) }
@@ -123,7 +123,7 @@ pub(crate) fn pass_up<L: Ledger>(
     steps: &mut Steps<L>,
 ) -> Passed
     requires column { x2 + 2 ≤ 2 * marks.now.wide }
-    requires row { r < held_rows marks.now }
+    requires row { r < stored_rows marks.now }
     requires next { next ≡ first_from marks.now x2 (r + 1) }
     ensures shown { result.shown ≡ row_below marks.now x2 r }
     ensures kept { result.kept ≡ first_from marks.now x2 r }

@@ -1,7 +1,7 @@
 // One row of column answers.
 
 ghost use Rattle.std.specs.Prelude.{◌≡◌, ◌≤◌, ◌<◌, ◌+◌, ◌*◌, ◌-◌, ℕ, length, slice_index, slice_set};
-ghost use Rattle.page_model.specs.Marks.{held_rows};
+ghost use Rattle.page_model.specs.Marks.{stored_rows};
 ghost use Rattle.page_model.specs.Limits.{most_column, most_reach, most_side};
 ghost use Rattle.column_scan.specs.Sweep.{above_of, column_of, raised, slot, IsRowWritten};
 
@@ -43,7 +43,7 @@ pub(crate) fn first_row_of<L: Ledger>(
     steps: &mut Steps<L>,
 )
     requires columns { columns + 1 ≡ 2 * marks.now.wide }
-    requires row { r < held_rows marks.now }
+    requires row { r < stored_rows marks.now }
     requires reach { reach2 ≤ most_reach }
     requires out { columns ≤ length out.old }
     ensures written { IsRowWritten out.old out.new columns 0
@@ -70,7 +70,7 @@ pub(crate) fn row_down<L: Ledger>(
     steps: &mut Steps<L>,
 )
     requires columns { columns + 1 ≡ 2 * marks.now.wide }
-    requires row { r + 1 < held_rows marks.now }
+    requires row { r + 1 < stored_rows marks.now }
     requires reach { reach2 ≤ most_reach }
     requires k { k + 1 < rows }
     requires rows { rows ≤ most_side }
@@ -106,7 +106,7 @@ pub(crate) fn last_row_of<L: Ledger>(
     steps: &mut Steps<L>,
 )
     requires columns { columns + 1 ≡ 2 * marks.now.wide }
-    requires row { r < held_rows marks.now }
+    requires row { r < stored_rows marks.now }
     requires reach { reach2 ≤ most_reach }
     requires k { k < rows }
     requires rows { rows ≤ most_side }
@@ -115,7 +115,7 @@ pub(crate) fn last_row_of<L: Ledger>(
         → slot out.old columns k x2 ≡ above_of marks.now x2 reach2 r }
     ensures written { IsRowWritten out.old out.new columns k
         (λ x2. column_of marks.now x2 reach2 r) columns }
-    ensures steps { steps.new ≡ steps.old + columns * (held_rows marks.now - r) }
+    ensures steps { steps.new ≡ steps.old + columns * (stored_rows marks.now - r) }
 {
     let _valid = marks.rows();
     for x2 in 0..columns {

@@ -1,7 +1,7 @@
 // The downward sweep: columns of one row carried to the next, many at once.
 
 ghost use Rattle.std.specs.Prelude.{◌≡◌, ◌≤◌, ◌<◌, ◌+◌, ◌*◌, ℕ, length, slice_index};
-ghost use Rattle.page_model.specs.Marks.{held_rows};
+ghost use Rattle.page_model.specs.Marks.{stored_rows};
 ghost use Rattle.page_model.specs.Limits.{most_column, most_reach, most_side};
 ghost use Rattle.column_scan.specs.Sweep.{above_of, slot};
 
@@ -24,7 +24,7 @@ pub(crate) fn enter<L: Ledger>(
     steps: &mut Steps<L>,
 ) -> u16
     requires column { x2 + 2 ≤ 2 * marks.now.wide }
-    requires row { r + 1 < held_rows marks.now }
+    requires row { r + 1 < stored_rows marks.now }
     requires reach { reach2 ≤ most_reach }
     requires code { code ≡ above_of marks.now x2 reach2 r }
     ensures code { result ≡ above_of marks.now x2 reach2 (r + 1) }
@@ -78,7 +78,7 @@ fn pairs_down<L: Ledger>(
     steps: &mut Steps<L>,
 )
     requires inside { x + count < marks.now.wide }
-    requires row { r + 1 < held_rows marks.now }
+    requires row { r + 1 < stored_rows marks.now }
     requires reach { reach2 ≤ most_reach }
     requires long { length codes.old ≡ 2 * count }
     requires above { (j : ℕ) → j < 2 * count
@@ -117,7 +117,7 @@ pub(crate) fn span_down<L: Ledger>(
     requires columns { columns + 1 ≡ 2 * marks.now.wide }
     requires inside { x + count < marks.now.wide }
     requires few { count ≤ 256 }
-    requires row { r + 1 < held_rows marks.now }
+    requires row { r + 1 < stored_rows marks.now }
     requires reach { reach2 ≤ most_reach }
     requires k { k + 1 < rows }
     requires rows { rows ≤ most_side }
@@ -136,8 +136,8 @@ pub(crate) fn span_down<L: Ledger>(
 {
     let _valid = marks.rows();
     let long = 2 * count as usize;
-    let mut room = [0u16; 2 * SPAN as usize];
-    let codes = &mut room[..long];
+    let mut workspace = [0u16; 2 * SPAN as usize];
+    let codes = &mut workspace[..long];
     codes.copy_from_slice(codes_of(out, columns, k, 2 * x, long));
     pairs_down(marks, x, count, r, reach2, codes, steps);
     put_codes(out, columns, k + 1, 2 * x, codes);

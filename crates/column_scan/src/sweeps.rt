@@ -1,6 +1,6 @@
 ghost use Rattle.std.specs.Prelude.{◌≡◌, ◌≤◌, ◌<◌, ◌+◌, ◌*◌, ◌-◌, ℕ, length, slice_index};
 ghost use Rattle.page_model.specs.declared.parts.PageParts.{PageParts};
-ghost use Rattle.page_model.specs.Marks.{held_rows};
+ghost use Rattle.page_model.specs.Marks.{stored_rows};
 ghost use Rattle.page_model.specs.Columns.{AreMarks, CoverRows, column_answer};
 ghost use Rattle.page_model.specs.Limits.{most_reach};
 ghost use Rattle.column_scan.specs.Sweep.{above_of, column_of, slot};
@@ -22,7 +22,7 @@ fn rows_down<L: Ledger>(
 )
     requires columns { columns + 1 ≡ 2 * marks.now.wide }
     requires some { 1 ≤ rows }
-    requires asked { first + rows ≤ held_rows marks.now }
+    requires asked { first + rows ≤ stored_rows marks.now }
     requires reach { reach2 ≤ most_reach }
     requires out { length out.old ≡ rows * columns }
     ensures len { length out.new ≡ length out.old }
@@ -41,7 +41,7 @@ fn rows_down<L: Ledger>(
 fn rows_up(marks: &Marks, columns: u32, first: u32, rows: u32, reach2: u32, out: &mut [u16])
     requires columns { columns + 1 ≡ 2 * marks.now.wide }
     requires some { 1 ≤ rows }
-    requires asked { first + rows ≤ held_rows marks.now }
+    requires asked { first + rows ≤ stored_rows marks.now }
     requires reach { reach2 ≤ most_reach }
     requires out { length out.old ≡ rows * columns }
     requires above { (k x2 : ℕ) → k + 1 < rows → x2 < columns
@@ -74,7 +74,7 @@ pub fn columns<L: Ledger>(
     requires reach { reach2 ≤ most_reach }
     requires some { 1 ≤ rows }
     requires from { marks.now.top ≤ first_row }
-    requires to { first_row + rows ≤ marks.now.top + held_rows marks.now }
+    requires to { first_row + rows ≤ marks.now.top + stored_rows marks.now }
     requires out { length out.old ≡ rows * (2 * width - 1) }
     ensures len { length out.new ≡ length out.old }
     ensures answers { (page : PageParts) → AreMarks page marks.now
@@ -82,7 +82,7 @@ pub fn columns<L: Ledger>(
         → x2 < 2 * width - 1
         → slice_index out.new (k * (2 * width - 1) + x2)
         ≡ column_answer page reach2 x2 (first_row + k) }
-    ensures steps { steps.new ≤ steps.old + 2 * ((2 * width - 1) * held_rows marks.now) }
+    ensures steps { steps.new ≤ steps.old + 2 * ((2 * width - 1) * stored_rows marks.now) }
 {
     let _valid = marks.rows();
     let columns = 2 * width - 1;

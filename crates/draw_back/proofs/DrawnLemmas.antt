@@ -80,21 +80,21 @@ drawn_alone s x y none = sym (drawn_only s x y (s.tint_at x y) (record {
 }))
 
 -- and so does one without ink
-pub drawn_bare : (s : Scene) (x y : ℕ) → s.tint_at x y ≡ 0 → drawn s x y ≡ s.tint_at x y
-drawn_bare s x y bare =
+pub drawn_outline : (s : Scene) (x y : ℕ) → s.tint_at x y ≡ 0 → drawn s x y ≡ s.tint_at x y
+drawn_outline s x y outline =
     let the : IsDrawn s x y (drawn s x y) = drawn_is s x y in
     let own : drawn s x y ≤ s.tint_at x y = the.own in
     omega arith
 
 -- the least is the start, or that of a number that passes
-least_held : (test : ℕ → Bool) (f : ℕ → ℕ) (start n : ℕ) → (least_below test f start n ≡ start) ⊎ ((k : ℕ) × (k < n) × (test k ≡ true) × (least_below test f start n ≡ f k))
-least_held test f start zero = inl refl
-least_held test f start (suc n) = elim (true_or_false (test n)) [
+least_stored : (test : ℕ → Bool) (f : ℕ → ℕ) (start n : ℕ) → (least_below test f start n ≡ start) ⊎ ((k : ℕ) × (k < n) × (test k ≡ true) × (least_below test f start n ≡ f k))
+least_stored test f start zero = inl refl
+least_stored test f start (suc n) = elim (true_or_false (test n)) [
   | inl e ↦ let step = least_with test f start n e in elim (cases_lt (f n) (least_below test f start n)) [
     | inl l ↦ inr (n, omega arith, e, omega arith)
-    | inr l ↦ let same : least_below test f start (suc n) ≡ least_below test f start n = omega arith in earlier same (least_held test f start n)
+    | inr l ↦ let same : least_below test f start (suc n) ≡ least_below test f start n = omega arith in earlier same (least_stored test f start n)
   ]
-  | inr e ↦ earlier (least_without test f start n e) (least_held test f start n)
+  | inr e ↦ earlier (least_without test f start n e) (least_stored test f start n)
 ]
   where
     earlier : least_below test f start (suc n) ≡ least_below test f start n → ((least_below test f start n ≡ start) ⊎ ((k : ℕ) × (k < n) × (test k ≡ true) × (least_below test f start n ≡ f k))) → (least_below test f start (suc n) ≡ start) ⊎ ((k : ℕ) × (k < suc n) × (test k ≡ true) × (least_below test f start (suc n) ≡ f k))
@@ -104,11 +104,11 @@ least_held test f start (suc n) = elim (true_or_false (test n)) [
     ]
 
 -- a pixel keeps its tint, or has that of a source
-pub drawn_held : (s : Scene) (x y : ℕ) → (drawn s x y ≡ s.tint_at x y) ⊎ ((at : Source s x y) × (drawn s x y ≡ s.tint_at at.column at.row))
+pub drawn_stored : (s : Scene) (x y : ℕ) → (drawn s x y ≡ s.tint_at x y) ⊎ ((at : Source s x y) × (drawn s x y ≡ s.tint_at at.column at.row))
 unfolding drawn
-drawn_held s x y = elim (least_held (λ k. true) (least_in_row s x y) (s.tint_at x y) s.tall) [
+drawn_stored s x y = elim (least_stored (λ k. true) (least_in_row s x y) (s.tint_at x y) s.tall) [
   | inl e ↦ inl e
-  | inr h ↦ elim (least_held (λ j. is_source s x y j h.0) (λ j. s.tint_at j h.0) (s.tint_at x y) s.wide) [
+  | inr h ↦ elim (least_stored (λ j. is_source s x y j h.0) (λ j. s.tint_at j h.0) (s.tint_at x y) s.wide) [
     | inl e ↦ inl (h.3 ∙ e)
     | inr g ↦ inr (record { column = g.0; row = h.0; in_row = g.1; on_page = h.1; source = g.2 }, h.3 ∙ g.3)
   ]

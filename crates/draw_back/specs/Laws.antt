@@ -16,7 +16,7 @@ pub record Source (s : Scene) (x y : ℕ) : Type 0 where
 pub record DrawnLaw (s : Scene) (x y : ℕ) : Type 0 where
   pub is : IsDrawn s x y (drawn s x y)
   pub only : (v : ℕ) → IsDrawn s x y v → v ≡ drawn s x y
-  pub held : (drawn s x y ≡ s.tint_at x y)
+  pub stored : (drawn s x y ≡ s.tint_at x y)
       ⊎ ((at : Source s x y) × (drawn s x y ≡ s.tint_at at.column at.row))
   pub less : drawn s x y ≤ s.tint_at x y
 

@@ -1,7 +1,7 @@
 // The zones and the marks of a whole page, by the makers that the engine goes by.
 
 ghost use Rattle.std.specs.Prelude.{◌≡◌, length};
-ghost use Rattle.row_values.specs.Room.{Serves};
+ghost use Rattle.row_values.specs.Workspace.{Serves};
 ghost use Rattle.page_model.specs.Page.{samples};
 ghost use Rattle.strip_engine.specs.Whole.{sample_zones};
 
@@ -9,27 +9,27 @@ use crate::grid::samples_of;
 use crate::memory::value_of;
 use lists::memory::vec_of;
 use page_model::page::Page;
-use row_values::{Rows, Workspace, make_marks, make_zones};
+use row_values::{RowBuffers, Rows, make_marks, make_zones};
 use std::alloc::Global;
 use std::process::Abort;
 
 /// Writes the zone of each sample, row by row.
-fn fill_zones(page: &Page, out: &mut [u8], room: &mut Workspace)
+fn fill_zones(page: &Page, out: &mut [u8], workspace: &mut RowBuffers)
     requires out { length out.old ≡ samples page.now }
-    requires room { Serves room.old page.now }
+    requires workspace { Serves workspace.old page.now }
     ensures { out.new ≡ sample_zones page.now }
 {
     let count = page.height();
-    make_zones(page, Rows { first: 0, count }, out, room);
+    make_zones(page, Rows { first: 0, count }, out, workspace);
 }
 
 /// The zone of each sample, row by row.
 pub fn zones_of(rt: &impl Abort, alloc: Global, page: &Page) -> Vec<u8>
     ensures { result.items ≡ sample_zones page.now }
 {
-    let mut room = value_of(rt, Workspace::new(alloc, page));
+    let mut workspace = value_of(rt, RowBuffers::new(alloc, page));
     let mut zones = value_of(rt, vec_of(alloc, 0u8, samples_of(page)));
-    fill_zones(page, &mut zones, &mut room);
+    fill_zones(page, &mut zones, &mut workspace);
     zones
 }
 

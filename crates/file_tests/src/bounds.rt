@@ -1,7 +1,7 @@
 use crate::fixtures::{add, by, judge, tray_of};
 use outside::mem_tray::MemTray;
 use pgm_plates::bounds::Bounds;
-use pgm_plates::plate::{PlateFault, PlateRefusal};
+use pgm_plates::plate::{PlateError, PlateFault};
 use pgm_plates::reading::read_plate_within;
 use pgm_plates::rows::begin_plate;
 use std::alloc::Global;
@@ -69,22 +69,22 @@ const HEADERS: &[(&str, Option<PlateFault>, Option<PlateFault>)] = &[
     ),
 ];
 
-fn begin_refusal(tray: &mut MemTray, bounds: Bounds) -> Option<PlateRefusal> {
+fn begin_error(tray: &mut MemTray, bounds: Bounds) -> Option<PlateError> {
     match begin_plate(tray, "one", bounds) {
         Ok(_) => None,
-        Err(refusal) => Some(refusal),
+        Err(error) => Some(error),
     }
 }
 
-fn refusal_of(rt: &impl Abort, alloc: Global, text: &str, bounds: Bounds) -> Option<PlateRefusal> {
+fn error_of(rt: &impl Abort, alloc: Global, text: &str, bounds: Bounds) -> Option<PlateError> {
     let mut tray = tray_of(rt, alloc, text.as_bytes(), by(4096));
-    begin_refusal(&mut tray, bounds)
+    begin_error(&mut tray, bounds)
 }
 
 // Whether it is that fault, or none.
-fn is_fault(refusal: Option<PlateRefusal>, want: Option<PlateFault>) -> bool {
-    match (refusal, want) {
-        (Some(PlateRefusal::Fault(fault)), Some(want)) => fault == want,
+fn is_fault(error: Option<PlateError>, want: Option<PlateFault>) -> bool {
+    match (error, want) {
+        (Some(PlateError::Fault(fault)), Some(want)) => fault == want,
         (None, None) => true,
         (_, _) => false,
     }
@@ -93,9 +93,9 @@ fn is_fault(refusal: Option<PlateRefusal>, want: Option<PlateFault>) -> bool {
 #[test]
 fn a_sheet_has_larger_sides_than_a_page(rt: HostRuntime) {
     for (text, page, sheet) in HEADERS {
-        let of_page = refusal_of(&rt, rt.alloc(), text, Bounds::Page);
+        let of_page = error_of(&rt, rt.alloc(), text, Bounds::Page);
         judge(&rt, is_fault(of_page, *page), text, 0);
-        let of_sheet = refusal_of(&rt, rt.alloc(), text, Bounds::Sheet);
+        let of_sheet = error_of(&rt, rt.alloc(), text, Bounds::Sheet);
         judge(&rt, is_fault(of_sheet, *sheet), text, 1);
     }
 }
@@ -110,14 +110,14 @@ fn level(rt: &impl Abort, alloc: Global, header: &str, count: usize) -> Vec<u8> 
 }
 
 // The samples of the plate of a sheet, or why it is refused.
-fn sample_count(alloc: Global, tray: &mut MemTray) -> Result<usize, PlateRefusal> {
+fn sample_count(alloc: Global, tray: &mut MemTray) -> Result<usize, PlateError> {
     match read_plate_within(alloc, tray, "one", Bounds::Sheet) {
         Ok(plate) => Ok(plate.samples.len()),
-        Err(refusal) => Err(refusal),
+        Err(error) => Err(error),
     }
 }
 
-fn read_bytes(rt: &impl Abort, alloc: Global, bytes: &[u8]) -> Result<usize, PlateRefusal> {
+fn read_bytes(rt: &impl Abort, alloc: Global, bytes: &[u8]) -> Result<usize, PlateError> {
     let mut tray = tray_of(rt, alloc, bytes, by(5000));
     sample_count(alloc, &mut tray)
 }
@@ -127,15 +127,15 @@ fn read_level(
     alloc: Global,
     header: &str,
     count: usize,
-) -> Result<usize, PlateRefusal> {
+) -> Result<usize, PlateError> {
     let bytes = level(rt, alloc, header, count);
     read_bytes(rt, alloc, &bytes)
 }
 
-fn is_same(one: Result<usize, PlateRefusal>, other: Result<usize, PlateFault>) -> bool {
+fn is_same(one: Result<usize, PlateError>, other: Result<usize, PlateFault>) -> bool {
     match (one, other) {
         (Ok(count), Ok(want)) => count == want,
-        (Err(PlateRefusal::Fault(fault)), Err(want)) => fault == want,
+        (Err(PlateError::Fault(fault)), Err(want)) => fault == want,
         (_, _) => false,
     }
 }

@@ -1,16 +1,16 @@
 use crate::fixtures::{Way, by, judge, tray_of};
 use outside::mem_tray::MemTray;
 use pgm_plates::pages::read_page;
-use pgm_plates::plate::{PlateFault, PlateRefusal};
+use pgm_plates::plate::{PlateError, PlateFault};
 use std::alloc::Global;
 use std::process::Abort;
 
 // The width of the plate of that number, none where there is none, or why it is refused.
-fn width_by(alloc: Global, tray: &mut MemTray, page: u32) -> Result<Option<u32>, PlateRefusal> {
+fn width_by(alloc: Global, tray: &mut MemTray, page: u32) -> Result<Option<u32>, PlateError> {
     match read_page(alloc, tray, "one", page) {
         Ok(Some(plate)) => Ok(Some(plate.width)),
         Ok(None) => Ok(None),
-        Err(refusal) => Err(refusal),
+        Err(error) => Err(error),
     }
 }
 
@@ -20,18 +20,15 @@ fn width_of(
     alloc: Global,
     (text, page): (&str, u32),
     way: Way,
-) -> Result<Option<u32>, PlateRefusal> {
+) -> Result<Option<u32>, PlateError> {
     let mut tray = tray_of(rt, alloc, text.as_bytes(), way);
     width_by(alloc, &mut tray, page)
 }
 
-fn is_same(
-    one: Result<Option<u32>, PlateRefusal>,
-    other: Result<Option<u32>, PlateRefusal>,
-) -> bool {
+fn is_same(one: Result<Option<u32>, PlateError>, other: Result<Option<u32>, PlateError>) -> bool {
     match (one, other) {
         (Ok(width), Ok(want)) => width == want,
-        (Err(refusal), Err(want)) => refusal == want,
+        (Err(error), Err(want)) => error == want,
         (_, _) => false,
     }
 }
@@ -67,10 +64,10 @@ const FILES: &[((&str, u32), Result<Option<u32>, PlateFault>)] = &[
     ),
 ];
 
-fn refusal_of(want: Result<Option<u32>, PlateFault>) -> Result<Option<u32>, PlateRefusal> {
+fn error_of(want: Result<Option<u32>, PlateFault>) -> Result<Option<u32>, PlateError> {
     match want {
         Ok(width) => Ok(width),
-        Err(fault) => Err(PlateRefusal::Fault(fault)),
+        Err(fault) => Err(PlateError::Fault(fault)),
     }
 }
 
@@ -79,7 +76,7 @@ fn judge_files(rt: &impl Abort, alloc: Global, grain: usize) {
         let width = width_of(rt, alloc, *file, by(grain));
         judge(
             rt,
-            is_same(width, refusal_of(*want)),
+            is_same(width, error_of(*want)),
             file.0,
             u64::from(file.1),
         );
@@ -95,10 +92,10 @@ fn the_plate_of_a_number_is_read(rt: HostRuntime) {
 // Two plates of 10 bytes each.
 const TWO: &str = "P5 1 1 1 \x01P5 1 1 1 \x01";
 
-const BROKEN: Result<Option<u32>, PlateRefusal> = Err(PlateRefusal::ReadFault);
+const BROKEN: Result<Option<u32>, PlateError> = Err(PlateError::ReadFault);
 
 // The answer for the second plate where reads fail from that place on.
-fn second_at(place: u64) -> Result<Option<u32>, PlateRefusal> {
+fn second_at(place: u64) -> Result<Option<u32>, PlateError> {
     if place < 20 { BROKEN } else { Ok(Some(1)) }
 }
 
@@ -107,7 +104,7 @@ fn judge_page(
     alloc: Global,
     place: u64,
     page: u32,
-    want: Result<Option<u32>, PlateRefusal>,
+    want: Result<Option<u32>, PlateError>,
 ) {
     let way = Way {
         fails_at: Some(place),

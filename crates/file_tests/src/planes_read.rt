@@ -2,7 +2,7 @@ use crate::fixtures::{by, judge, tray_of};
 use outside::mem_tray::MemTray;
 use page_model::parts::Plane;
 use pgm_plates::pages::read_page_plane;
-use pgm_plates::plate::{PlateFault, PlateRefusal};
+use pgm_plates::plate::{PlateError, PlateFault};
 use pgm_plates::reading::read_plane;
 use std::alloc::Global;
 use std::process::Abort;
@@ -19,29 +19,25 @@ fn ends_of(plane: &Plane) -> Option<(u16, u16)> {
 // What a file reads as: its plane's ends, no plane, or its fault.
 type Ends = Result<Option<(u16, u16)>, PlateFault>;
 
-fn plane_by(alloc: Global, tray: &mut MemTray) -> Result<Option<(u16, u16)>, PlateRefusal> {
+fn plane_by(alloc: Global, tray: &mut MemTray) -> Result<Option<(u16, u16)>, PlateError> {
     match read_plane(alloc, tray, "one") {
         Ok(plane) => Ok(ends_of(&plane)),
-        Err(refusal) => Err(refusal),
+        Err(error) => Err(error),
     }
 }
 
-fn page_by(
-    alloc: Global,
-    tray: &mut MemTray,
-    page: u32,
-) -> Result<Option<(u16, u16)>, PlateRefusal> {
+fn page_by(alloc: Global, tray: &mut MemTray, page: u32) -> Result<Option<(u16, u16)>, PlateError> {
     match read_page_plane(alloc, tray, "one", page) {
         Ok(Some(plane)) => Ok(ends_of(&plane)),
         Ok(None) => Ok(None),
-        Err(refusal) => Err(refusal),
+        Err(error) => Err(error),
     }
 }
 
-fn is_same(one: Result<Option<(u16, u16)>, PlateRefusal>, other: Ends) -> bool {
+fn is_same(one: Result<Option<(u16, u16)>, PlateError>, other: Ends) -> bool {
     match (one, other) {
         (Ok(ends), Ok(want)) => ends == want,
-        (Err(PlateRefusal::Fault(fault)), Err(want)) => fault == want,
+        (Err(PlateError::Fault(fault)), Err(want)) => fault == want,
         (_, _) => false,
     }
 }

@@ -1,34 +1,34 @@
 use crate::fixtures::{Way, add, by, bytes_of, judge, tray_of, write};
 use outside::endless_tray::EndlessTray;
 use outside::tray::Tray;
-use pgm_plates::plate::{PlateFault, PlateRefusal};
+use pgm_plates::plate::{PlateError, PlateFault};
 use pgm_plates::reading::read_plate;
 use std::alloc::Global;
 use std::process::Abort;
 
-fn refusal_by<T: Tray>(alloc: Global, tray: &mut T) -> Option<PlateRefusal> {
+fn error_by<T: Tray>(alloc: Global, tray: &mut T) -> Option<PlateError> {
     match read_plate(alloc, tray, "one") {
         Ok(_) => None,
-        Err(refusal) => Some(refusal),
+        Err(error) => Some(error),
     }
 }
 
 // What a file of these bytes is refused for, by such a tray.
-fn refusal_of(rt: &impl Abort, alloc: Global, bytes: &[u8], way: Way) -> Option<PlateRefusal> {
+fn error_of(rt: &impl Abort, alloc: Global, bytes: &[u8], way: Way) -> Option<PlateError> {
     let mut tray = tray_of(rt, alloc, bytes, way);
-    refusal_by(alloc, &mut tray)
+    error_by(alloc, &mut tray)
 }
 
 // Whether it is that fault.
-fn is_fault(refusal: Option<PlateRefusal>, want: PlateFault) -> bool {
-    match refusal {
-        Some(PlateRefusal::Fault(fault)) => fault == want,
+fn is_fault(error: Option<PlateError>, want: PlateFault) -> bool {
+    match error {
+        Some(PlateError::Fault(fault)) => fault == want,
         _ => false,
     }
 }
 
-fn is_read_fault(refusal: Option<PlateRefusal>) -> bool {
-    matches!(refusal, Some(PlateRefusal::ReadFault))
+fn is_read_fault(error: Option<PlateError>) -> bool {
+    matches!(error, Some(PlateError::ReadFault))
 }
 
 const PLATES: &[&str] = &[
@@ -46,8 +46,8 @@ const PLATES: &[&str] = &[
 
 fn judge_plates(rt: &impl Abort, alloc: Global, grain: usize) {
     for text in PLATES {
-        let refusal = refusal_of(rt, alloc, text.as_bytes(), by(grain));
-        judge(rt, refusal.is_none(), text, grain as u64);
+        let error = error_of(rt, alloc, text.as_bytes(), by(grain));
+        judge(rt, error.is_none(), text, grain as u64);
     }
 }
 
@@ -103,13 +103,13 @@ const FAULTS: &[(&str, PlateFault)] = &[
 
 fn judge_faults(rt: &impl Abort, alloc: Global, grain: usize) {
     for (text, want) in FAULTS {
-        let refusal = refusal_of(rt, alloc, text.as_bytes(), by(grain));
-        judge(rt, is_fault(refusal, *want), text, grain as u64);
+        let error = error_of(rt, alloc, text.as_bytes(), by(grain));
+        judge(rt, is_fault(error, *want), text, grain as u64);
     }
 }
 
 #[test]
-fn the_first_fault_from_the_left_is_told(rt: HostRuntime) {
+fn the_first_fault_from_the_left_is_reported(rt: HostRuntime) {
     judge_faults(&rt, rt.alloc(), 1);
     judge_faults(&rt, rt.alloc(), 2);
     judge_faults(&rt, rt.alloc(), 3);
@@ -126,9 +126,9 @@ const CUT: &[&str] = &[
 fn judge_cuts(rt: &impl Abort, alloc: Global, text: &str) {
     for count in 0..text.len() {
         let prefix = text.as_bytes().get(..count).unwrap_or(b"");
-        let refusal = refusal_of(rt, alloc, prefix, by(4096));
+        let error = error_of(rt, alloc, prefix, by(4096));
         let want = PlateFault::Truncated(count as u64);
-        judge(rt, is_fault(refusal, want), text, count as u64);
+        judge(rt, is_fault(error, want), text, count as u64);
     }
 }
 
@@ -165,31 +165,26 @@ const COMMENTS: &[&str] = &[
     "#a\n \t#b\r",
 ];
 
-fn refusal_with_gap(
-    rt: &impl Abort,
-    alloc: Global,
-    place: usize,
-    gap: &str,
-) -> Option<PlateRefusal> {
+fn error_with_gap(rt: &impl Abort, alloc: Global, place: usize, gap: &str) -> Option<PlateError> {
     let text = with_gap(rt, alloc, place, gap);
-    refusal_of(rt, alloc, text.as_bytes(), by(4096))
+    error_of(rt, alloc, text.as_bytes(), by(4096))
 }
 
 // Looks whether these gaps, each in place of that one, give a plate.
 fn judge_gaps(rt: &impl Abort, alloc: Global, place: usize, gaps: &[&str]) {
     for gap in gaps {
-        let refusal = refusal_with_gap(rt, alloc, place, gap);
-        judge(rt, refusal.is_none(), gap, place as u64);
+        let error = error_with_gap(rt, alloc, place, gap);
+        judge(rt, error.is_none(), gap, place as u64);
     }
 }
 
 // Looks whether they are no gaps, in a plate whose gap begins at that byte.
 fn judge_no_gaps(rt: &impl Abort, alloc: Global, place: usize, at: u64, gaps: &[&str]) {
     for gap in gaps {
-        let refusal = refusal_with_gap(rt, alloc, place, gap);
+        let error = error_with_gap(rt, alloc, place, gap);
         judge(
             rt,
-            is_fault(refusal, PlateFault::BadHeader(at)),
+            is_fault(error, PlateFault::BadHeader(at)),
             gap,
             place as u64,
         );
@@ -240,21 +235,21 @@ const LONG: &[(usize, &str, PlateFault)] = &[
     (65_537, "1 0 ", PlateFault::BadHeader(65_536)),
 ];
 
-fn refusal_of_long(
+fn error_of_long(
     rt: &impl Abort,
     alloc: Global,
     count: usize,
     numbers: &str,
-) -> Option<PlateRefusal> {
+) -> Option<PlateError> {
     let bytes = long_header(rt, alloc, count, numbers);
-    refusal_of(rt, alloc, &bytes, by(4096))
+    error_of(rt, alloc, &bytes, by(4096))
 }
 
 #[test]
 fn a_header_has_65536_bytes_at_most(rt: HostRuntime) {
     for (count, numbers, want) in LONG {
-        let refusal = refusal_of_long(&rt, rt.alloc(), *count, numbers);
-        judge(&rt, is_fault(refusal, *want), numbers, *count as u64);
+        let error = error_of_long(&rt, rt.alloc(), *count, numbers);
+        judge(&rt, is_fault(error, *want), numbers, *count as u64);
     }
 }
 
@@ -270,29 +265,24 @@ const ENDLESS: &[(&str, u8, PlateFault)] = &[
     ("P5 16384 9000 1\n", 2, PlateFault::SampleAboveMaxval(16)),
 ];
 
-fn refusal_of_endless(
-    rt: &impl Abort,
-    alloc: Global,
-    head: &str,
-    tail: u8,
-) -> Option<PlateRefusal> {
+fn error_of_endless(rt: &impl Abort, alloc: Global, head: &str, tail: u8) -> Option<PlateError> {
     let mut tray = EndlessTray::new(bytes_of(rt, alloc, head.as_bytes()), tail);
-    refusal_by(alloc, &mut tray)
+    error_by(alloc, &mut tray)
 }
 
 #[test]
 fn an_endless_file_is_read_no_further_than_it_decides(rt: HostRuntime) {
     for (head, tail, want) in ENDLESS {
-        let refusal = refusal_of_endless(&rt, rt.alloc(), head, *tail);
-        judge(&rt, is_fault(refusal, *want), head, u64::from(*tail));
+        let error = error_of_endless(&rt, rt.alloc(), head, *tail);
+        judge(&rt, is_fault(error, *want), head, u64::from(*tail));
     }
 }
 
 // It reads 160 MB.
 #[test]
 fn a_plate_may_have_160000000_samples(rt: HostRuntime) {
-    let refusal = refusal_of_endless(&rt, rt.alloc(), "P5 16000 10000 1\n", 1);
-    assert!(rt; is_fault(refusal, PlateFault::TrailingBytes(160_000_017)));
+    let error = error_of_endless(&rt, rt.alloc(), "P5 16000 10000 1\n", 1);
+    assert!(rt; is_fault(error, PlateFault::TrailingBytes(160_000_017)));
 }
 
 // What a plate is refused for whose reads from that place on, or whose call of that number, fail.
@@ -301,29 +291,29 @@ fn failing(
     alloc: Global,
     fails_at: Option<u64>,
     call: Option<u64>,
-) -> Option<PlateRefusal> {
+) -> Option<PlateError> {
     let way = Way {
         grain: 4096,
         fails_at,
         call,
     };
-    refusal_of(rt, alloc, b"P5\n6 1\n255\n\x00\x00\x00\xff\xff\xff", way)
+    error_of(rt, alloc, b"P5\n6 1\n255\n\x00\x00\x00\xff\xff\xff", way)
 }
 
-// Whether it is a read fault, or, where the plate is whole, no refusal.
-fn is_read_so(refusal: Option<PlateRefusal>, is_whole: bool) -> bool {
+// Whether it is a read fault, or, where the plate is whole, no error.
+fn is_read_so(error: Option<PlateError>, is_whole: bool) -> bool {
     if is_whole {
-        refusal.is_none()
+        error.is_none()
     } else {
-        is_read_fault(refusal)
+        is_read_fault(error)
     }
 }
 
 #[test]
 fn a_read_that_fails_before_a_fault_is_a_read_fault(rt: HostRuntime) {
     for place in 0..20 {
-        let refusal = failing(&rt, rt.alloc(), Some(place), None);
-        judge(&rt, is_read_so(refusal, place >= 18), "at", place);
+        let error = failing(&rt, rt.alloc(), Some(place), None);
+        judge(&rt, is_read_so(error, place >= 18), "at", place);
     }
 }
 
@@ -331,18 +321,18 @@ fn a_read_that_fails_before_a_fault_is_a_read_fault(rt: HostRuntime) {
 fn a_call_that_fails_before_a_fault_is_a_read_fault(rt: HostRuntime) {
     // `begin`, eleven reads for the header, one for the raster and one after it.
     for call in 0..16 {
-        let refusal = failing(&rt, rt.alloc(), None, Some(call));
-        judge(&rt, is_read_so(refusal, call >= 14), "call", call);
+        let error = failing(&rt, rt.alloc(), None, Some(call));
+        judge(&rt, is_read_so(error, call >= 14), "call", call);
     }
 }
 
 // What a plate with a sample above its maxval is refused for whose reads fail from that place on.
-fn above_at(rt: &impl Abort, alloc: Global, place: u64) -> Option<PlateRefusal> {
+fn above_at(rt: &impl Abort, alloc: Global, place: u64) -> Option<PlateError> {
     let way = Way {
         fails_at: Some(place),
         ..by(4096)
     };
-    refusal_of(rt, alloc, b"P5 6 1 1 \x01\x02\x00\x00\x00\x00", way)
+    error_of(rt, alloc, b"P5 6 1 1 \x01\x02\x00\x00\x00\x00", way)
 }
 
 #[test]
@@ -356,10 +346,10 @@ fn a_sample_that_was_read_before_a_failure_is_judged(rt: HostRuntime) {
         );
     }
     for place in 11..16 {
-        let refusal = above_at(&rt, rt.alloc(), place);
+        let error = above_at(&rt, rt.alloc(), place);
         judge(
             &rt,
-            is_fault(refusal, PlateFault::SampleAboveMaxval(10)),
+            is_fault(error, PlateFault::SampleAboveMaxval(10)),
             "at",
             place,
         );
@@ -376,9 +366,9 @@ fn with_sample_above(rt: &impl Abort, alloc: Global, count: usize) -> Vec<u8> {
     bytes
 }
 
-fn refusal_above(rt: &impl Abort, alloc: Global, count: usize) -> Option<PlateRefusal> {
+fn error_above(rt: &impl Abort, alloc: Global, count: usize) -> Option<PlateError> {
     let bytes = with_sample_above(rt, alloc, count);
-    refusal_of(rt, alloc, &bytes, by(1000))
+    error_of(rt, alloc, &bytes, by(1000))
 }
 
 // By how many samples there are before the one that is above; the last row has one byte more than a plate.
@@ -393,7 +383,7 @@ const ABOVE: &[(usize, PlateFault)] = &[
 #[test]
 fn a_sample_is_judged_in_each_piece(rt: HostRuntime) {
     for (count, want) in ABOVE {
-        let refusal = refusal_above(&rt, rt.alloc(), *count);
-        judge(&rt, is_fault(refusal, *want), "samples", *count as u64);
+        let error = error_above(&rt, rt.alloc(), *count);
+        judge(&rt, is_fault(error, *want), "samples", *count as u64);
     }
 }

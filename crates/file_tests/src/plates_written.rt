@@ -53,9 +53,9 @@ fn write_by(plate: &Plate, rack: &mut MemRack, want: &[u8]) -> (bool, bool)
     (is_written, holds(rack, want))
 }
 
-fn rack_of(rt: &impl Abort, alloc: Global, grain: usize, room: u64) -> MemRack {
+fn rack_of(rt: &impl Abort, alloc: Global, grain: usize, workspace: u64) -> MemRack {
     assert!(rt; grain > 0);
-    MemRack::new(alloc, grain, room, List::new(alloc))
+    MemRack::new(alloc, grain, workspace, List::new(alloc))
 }
 
 // The same by a rack of that grain with that much room.
@@ -64,12 +64,12 @@ fn write_on(
     alloc: Global,
     plate: &Plate,
     grain: usize,
-    room: u64,
+    workspace: u64,
     want: &[u8],
 ) -> (bool, bool)
     requires { IsPlate plate.now }
 {
-    let mut rack = rack_of(rt, alloc, grain, room);
+    let mut rack = rack_of(rt, alloc, grain, workspace);
     write_by(plate, &mut rack, want)
 }
 
@@ -78,11 +78,11 @@ fn write_again(
     rt: &impl Abort,
     alloc: Global,
     bytes: &[u8],
-    (grain, room): (usize, u64),
+    (grain, workspace): (usize, u64),
     want: &[u8],
 ) -> (bool, bool) {
     match plate_of(rt, alloc, bytes) {
-        Some(plate) => write_on(rt, alloc, &plate, grain, room, want),
+        Some(plate) => write_on(rt, alloc, &plate, grain, workspace, want),
         None => (false, false),
     }
 }
@@ -114,11 +114,11 @@ fn a_plate_is_written_in_its_canonical_spelling(rt: HostRuntime) {
 const SIX: &[u8] = b"P5\n6 1\n255\n\x00\x00\x00\xff\xff\xff";
 
 #[test]
-fn a_rack_without_room_holds_a_prefix_of_the_spelling(rt: HostRuntime) {
-    for room in 0..18u64 {
-        let prefix = SIX.get(..room as usize).unwrap_or(SIX);
-        let is = write_again(&rt, rt.alloc(), SIX, (3, room), prefix);
-        judge(&rt, is == (room == 17, true), "room", room);
+fn a_rack_without_workspace_holds_a_prefix_of_the_spelling(rt: HostRuntime) {
+    for workspace in 0..18u64 {
+        let prefix = SIX.get(..workspace as usize).unwrap_or(SIX);
+        let is = write_again(&rt, rt.alloc(), SIX, (3, workspace), prefix);
+        judge(&rt, is == (workspace == 17, true), "room", workspace);
     }
 }
 

@@ -23,9 +23,15 @@ fn is_written(rack: &mut MemRack, name: &str, text: &[u8]) -> bool {
     }
 }
 
-fn rack_of(rt: &impl Abort, alloc: Global, grain: usize, room: u64, call: Option<u64>) -> MemRack {
+fn rack_of(
+    rt: &impl Abort,
+    alloc: Global,
+    grain: usize,
+    workspace: u64,
+    call: Option<u64>,
+) -> MemRack {
     assert!(rt; grain > 0);
-    MemRack::new(alloc, grain, room, only(rt, alloc, call))
+    MemRack::new(alloc, grain, workspace, only(rt, alloc, call))
 }
 
 // Writes `plate`, and says whether it was written and whether the file then holds that prefix.
@@ -38,11 +44,11 @@ fn writes(rack: &mut MemRack, prefix: Option<&[u8]>) -> (bool, bool) {
 fn write_on_rack(
     rt: &impl Abort,
     alloc: Global,
-    (grain, room): (usize, u64),
+    (grain, workspace): (usize, u64),
     call: Option<u64>,
     prefix: Option<usize>,
 ) -> (bool, bool) {
-    let mut rack = rack_of(rt, alloc, grain, room, call);
+    let mut rack = rack_of(rt, alloc, grain, workspace, call);
     writes(&mut rack, prefix_of(prefix))
 }
 
@@ -53,18 +59,24 @@ fn prefix_of(count: Option<usize>) -> Option<&'static [u8]> {
     }
 }
 
-fn judge_rooms(rt: &impl Abort, alloc: Global, grain: usize) {
-    for room in 0..12u64 {
-        let is = write_on_rack(rt, alloc, (grain, room), None, Some(room as usize));
-        judge(rt, is == (room >= 10, true), "room", room);
+fn judge_workspaces(rt: &impl Abort, alloc: Global, grain: usize) {
+    for workspace in 0..12u64 {
+        let is = write_on_rack(
+            rt,
+            alloc,
+            (grain, workspace),
+            None,
+            Some(workspace as usize),
+        );
+        judge(rt, is == (workspace >= 10, true), "room", workspace);
     }
 }
 
 #[test]
-fn a_rack_without_room_holds_a_prefix(rt: HostRuntime) {
-    judge_rooms(&rt, rt.alloc(), 1);
-    judge_rooms(&rt, rt.alloc(), 3);
-    judge_rooms(&rt, rt.alloc(), 4096);
+fn a_rack_without_workspace_holds_a_prefix(rt: HostRuntime) {
+    judge_workspaces(&rt, rt.alloc(), 1);
+    judge_workspaces(&rt, rt.alloc(), 3);
+    judge_workspaces(&rt, rt.alloc(), 4096);
 }
 
 // By pieces of 4 there are `create`, three writes and `finish`: the call that fails, what the file then holds, and whether
@@ -86,7 +98,7 @@ fn each_write_fails_in_turn(rt: HostRuntime) {
     }
 }
 
-fn is_told(rack: &mut MemRack, text: &[u8]) -> bool {
+fn is_reported(rack: &mut MemRack, text: &[u8]) -> bool {
     match rack.tell(text) {
         Ok(()) => true,
         Err(_) => false,
@@ -97,13 +109,13 @@ fn is_told(rack: &mut MemRack, text: &[u8]) -> bool {
 fn writes_twice(rack: &mut MemRack) -> bool {
     is_written(rack, "one", b"first")
         && is_written(rack, "two", b"")
-        && is_told(rack, b"told")
-        && !is_told(rack, b"lost")
+        && is_reported(rack, b"told")
+        && !is_reported(rack, b"lost")
         && is_written(rack, "one", b"second")
 }
 
 fn tells(rack: &MemRack, want: &[u8]) -> bool {
-    rack.told() == want
+    rack.reported() == want
 }
 
 fn is_written_twice(rack: &MemRack) -> bool {
@@ -126,14 +138,14 @@ fn write_twice(rt: &impl Abort, alloc: Global) -> (bool, bool) {
 
 #[test]
 fn a_later_file_stands_in_place_of_an_earlier_one(rt: HostRuntime) {
-    let (is_done, is_held) = write_twice(&rt, rt.alloc());
+    let (is_done, is_stored) = write_twice(&rt, rt.alloc());
     assert!(rt; is_done);
-    assert!(rt; is_held);
+    assert!(rt; is_stored);
 }
 
 fn tells_both(rack: &mut MemRack) -> (bool, bool) {
-    let is_empty_told = is_told(rack, b"");
-    (is_empty_told, is_told(rack, b"text"))
+    let is_empty_reported = is_reported(rack, b"");
+    (is_empty_reported, is_reported(rack, b"text"))
 }
 
 // Tells an empty text and then a text, of which the call of that number fails.
@@ -143,7 +155,7 @@ fn tell_both(rt: &impl Abort, alloc: Global, call: u64) -> (bool, bool) {
 }
 
 #[test]
-fn a_text_needs_no_room_and_fails_by_its_number(rt: HostRuntime) {
+fn a_text_needs_no_workspace_and_fails_by_its_number(rt: HostRuntime) {
     for (call, want) in &[(0, (false, true)), (1, (true, false)), (2, (true, true))] {
         judge(
             &rt,

@@ -13,7 +13,7 @@ fn is_written(rt: &HostRuntime, name: &str, text: &[u8]) -> bool {
     write_file(&mut rack, name, text).is_ok()
 }
 
-fn is_told(rt: &HostRuntime) -> bool {
+fn is_reported(rt: &HostRuntime) -> bool {
     DiskRack::new(rt).tell(b"told\n").is_ok()
 }
 
@@ -81,7 +81,7 @@ fn real_files_are_written_and_read(rt: HostRuntime) -> Result<(), Fail> {
     assert!(rt; is_written(&rt, name, b"first and longer"));
     assert!(rt; is_written(&rt, name, b"second"));
     assert!(rt; !is_written(&rt, "no-such-folder/file", b""));
-    assert!(rt; is_told(&rt));
+    assert!(rt; is_reported(&rt));
     assert!(rt; holds(&rt, name, Some(b"second")));
     fs::remove_file(&rt, name)?;
     assert!(rt; holds(&rt, name, None));

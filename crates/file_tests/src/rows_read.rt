@@ -3,7 +3,7 @@ ghost use Rattle.std.specs.Prelude.{◌≤◌, length};
 use crate::fixtures::{by, judge, tray_of};
 use outside::mem_tray::MemTray;
 use pgm_plates::bounds::Bounds;
-use pgm_plates::plate::{PlateFault, PlateRefusal};
+use pgm_plates::plate::{PlateError, PlateFault};
 use pgm_plates::rows::{begin_plate, end_plate, judge_rows, read_rows};
 use std::alloc::Global;
 use std::process::Abort;
@@ -14,56 +14,56 @@ fn read_parts(
     first: &mut [u16],
     second: &mut [u16],
     piece: &mut [u8],
-) -> Result<(), PlateRefusal>
-    requires room { 2 ≤ length piece.old }
+) -> Result<(), PlateError>
+    requires workspace { 2 ≤ length piece.old }
     requires first { length first.old ≤ 6 }
     requires second { length second.old ≤ 6 }
 {
     let plate = match begin_plate(tray, "one", Bounds::Sheet) {
         Ok(plate) => plate,
-        Err(refusal) => return Err(refusal),
+        Err(error) => return Err(error),
     };
     match read_rows(tray, plate, 0, first, piece) {
         Ok(()) => {}
-        Err(refusal) => return Err(refusal),
+        Err(error) => return Err(error),
     }
     match read_rows(tray, plate, first.len() as u64, second, piece) {
         Ok(()) => end_plate(tray, plate),
-        Err(refusal) => Err(refusal),
+        Err(error) => Err(error),
     }
 }
 
 // Judges the six samples of a plate, some of them at first, and then the rest.
-fn judge_six(tray: &mut MemTray, first: u64, piece: &mut [u8]) -> Result<(), PlateRefusal>
-    requires room { 2 ≤ length piece.old }
+fn judge_six(tray: &mut MemTray, first: u64, piece: &mut [u8]) -> Result<(), PlateError>
+    requires workspace { 2 ≤ length piece.old }
     requires first { first ≤ 6 }
 {
     let plate = match begin_plate(tray, "one", Bounds::Sheet) {
         Ok(plate) => plate,
-        Err(refusal) => return Err(refusal),
+        Err(error) => return Err(error),
     };
     match judge_rows(tray, plate, 0, first, piece) {
         Ok(()) => {}
-        Err(refusal) => return Err(refusal),
+        Err(error) => return Err(error),
     }
     match judge_rows(tray, plate, first, 6 - first, piece) {
         Ok(()) => end_plate(tray, plate),
-        Err(refusal) => Err(refusal),
+        Err(error) => Err(error),
     }
 }
 
 // The six samples of a plate, some of them read at first, and then the rest.
-fn read_six(tray: &mut MemTray, first: usize, piece: usize) -> Result<[u16; 6], PlateRefusal>
+fn read_six(tray: &mut MemTray, first: usize, piece: usize) -> Result<[u16; 6], PlateError>
     requires first { first ≤ 6 }
     requires some { 2 ≤ piece }
-    requires room { piece ≤ 64 }
+    requires workspace { piece ≤ 64 }
 {
     let mut samples = [0u16; 6];
     let mut bytes = [0u8; 64];
     let (top, rest) = samples.split_at_mut(first);
     match read_parts(tray, top, rest, &mut bytes[..piece]) {
         Ok(()) => Ok(samples),
-        Err(refusal) => Err(refusal),
+        Err(error) => Err(error),
     }
 }
 
@@ -118,10 +118,10 @@ const SIXES: &[(&str, Result<[u16; 6], PlateFault>)] = &[
     ("P5 2 3 0 ", Err(PlateFault::MaxvalRange(7))),
 ];
 
-fn is_same(one: Result<[u16; 6], PlateRefusal>, other: Result<[u16; 6], PlateFault>) -> bool {
+fn is_same(one: Result<[u16; 6], PlateError>, other: Result<[u16; 6], PlateFault>) -> bool {
     match (one, other) {
         (Ok(samples), Ok(want)) => samples.as_slice() == want.as_slice(),
-        (Err(PlateRefusal::Fault(fault)), Err(want)) => fault == want,
+        (Err(PlateError::Fault(fault)), Err(want)) => fault == want,
         (_, _) => false,
     }
 }
@@ -133,19 +133,19 @@ fn six_of(
     text: &str,
     first: usize,
     piece: usize,
-) -> Result<[u16; 6], PlateRefusal>
+) -> Result<[u16; 6], PlateError>
     requires first { first ≤ 6 }
     requires some { 2 ≤ piece }
-    requires room { piece ≤ 64 }
+    requires workspace { piece ≤ 64 }
 {
     let mut tray = tray_of(rt, alloc, text.as_bytes(), by(3));
     read_six(&mut tray, first, piece)
 }
 
-fn is_judged(one: Result<(), PlateRefusal>, other: Result<[u16; 6], PlateFault>) -> bool {
+fn is_judged(one: Result<(), PlateError>, other: Result<[u16; 6], PlateFault>) -> bool {
     match (one, other) {
         (Ok(()), Ok(_)) => true,
-        (Err(PlateRefusal::Fault(fault)), Err(want)) => fault == want,
+        (Err(PlateError::Fault(fault)), Err(want)) => fault == want,
         (_, _) => false,
     }
 }
@@ -157,10 +157,10 @@ fn judge_in_parts(
     text: &str,
     first: usize,
     piece: usize,
-) -> Result<(), PlateRefusal>
+) -> Result<(), PlateError>
     requires first { first ≤ 6 }
     requires some { 2 ≤ piece }
-    requires room { piece ≤ 64 }
+    requires workspace { piece ≤ 64 }
 {
     let mut tray = tray_of(rt, alloc, text.as_bytes(), by(3));
     let mut bytes = [0u8; 64];
@@ -171,7 +171,7 @@ fn judge_in_parts(
 fn judge_sixes(rt: &impl Abort, alloc: Global, first: usize, piece: usize)
     requires first { first ≤ 6 }
     requires some { 2 ≤ piece }
-    requires room { piece ≤ 64 }
+    requires workspace { piece ≤ 64 }
 {
     for (text, want) in SIXES {
         let is = is_same(six_of(rt, alloc, text, first, piece), *want);

@@ -5,14 +5,19 @@ ghost use Rattle.page_model.specs.Limits.{most_maxval};
 use crate::fixtures::judge;
 use lists::list::List;
 use outside::mem_rack::MemRack;
-use outside::tray::Failed;
+use outside::tray::DeviceError;
 use pgm_plates::rows::Header;
 use pgm_plates::writing::{begin_image, end_image, write_rows};
 use std::alloc::Global;
 use std::process::Abort;
 
 // Writes a plate of two by three samples in two parts.
-fn write_parts(rack: &mut MemRack, maxval: u32, first: &[u16], second: &[u16]) -> Result<(), Failed>
+fn write_parts(
+    rack: &mut MemRack,
+    maxval: u32,
+    first: &[u16],
+    second: &[u16],
+) -> Result<(), DeviceError>
     requires maxval { maxval ≤ most_maxval }
     requires first { All (λ t. t ≤ maxval) first.now }
     requires second { All (λ t. t ≤ maxval) second.now }
@@ -25,15 +30,15 @@ fn write_parts(rack: &mut MemRack, maxval: u32, first: &[u16], second: &[u16]) -
     let mut piece = [0u8; 4];
     match begin_image(rack, "out", header) {
         Ok(()) => {}
-        Err(Failed) => return Err(Failed),
+        Err(DeviceError) => return Err(DeviceError),
     }
     match write_rows(rack, header, first, &mut piece) {
         Ok(()) => {}
-        Err(Failed) => return Err(Failed),
+        Err(DeviceError) => return Err(DeviceError),
     }
     match write_rows(rack, header, second, &mut piece) {
         Ok(()) => end_image(rack),
-        Err(Failed) => Err(Failed),
+        Err(DeviceError) => Err(DeviceError),
     }
 }
 
@@ -80,9 +85,9 @@ fn holds(rack: &MemRack, want: &[u8]) -> bool {
     }
 }
 
-fn rack_of(rt: &impl Abort, alloc: Global, grain: usize, room: u64) -> MemRack {
+fn rack_of(rt: &impl Abort, alloc: Global, grain: usize, workspace: u64) -> MemRack {
     assert!(rt; grain > 0);
-    MemRack::new(alloc, grain, room, List::new(alloc))
+    MemRack::new(alloc, grain, workspace, List::new(alloc))
 }
 
 // Six tints, their maxval, and the file that they are written as.
@@ -109,11 +114,11 @@ fn writes_on(
     rt: &impl Abort,
     alloc: Global,
     (tints, maxval): (&[u16; 6], u32),
-    (first, room): (usize, u64),
+    (first, workspace): (usize, u64),
     want: &[u8],
 ) -> (bool, bool) {
     assert!(rt; first <= 6 && maxval <= 65_535);
-    let mut rack = rack_of(rt, alloc, 3, room);
+    let mut rack = rack_of(rt, alloc, 3, workspace);
     writes_six(&mut rack, maxval, tints, first, want)
 }
 
@@ -123,11 +128,17 @@ fn writes(
     alloc: Global,
     (tints, maxval, want): &([u16; 6], u32, &str),
     first: usize,
-    room: usize,
+    workspace: usize,
 ) -> (bool, bool) {
     let bytes = want.as_bytes();
-    let held = bytes.get(..room).unwrap_or(bytes);
-    writes_on(rt, alloc, (tints, *maxval), (first, room as u64), held)
+    let stored = bytes.get(..workspace).unwrap_or(bytes);
+    writes_on(
+        rt,
+        alloc,
+        (tints, *maxval),
+        (first, workspace as u64),
+        stored,
+    )
 }
 
 fn judge_parts(rt: &impl Abort, alloc: Global, row: &([u16; 6], u32, &str)) {
@@ -144,17 +155,22 @@ fn a_plate_that_is_written_by_rows_is_the_same(rt: HostRuntime) {
     }
 }
 
-fn judge_rooms(rt: &impl Abort, alloc: Global, row: &([u16; 6], u32, &str)) {
+fn judge_workspaces(rt: &impl Abort, alloc: Global, row: &([u16; 6], u32, &str)) {
     let whole = row.2.len();
-    for room in 0..whole + 1 {
-        let is = writes(rt, alloc, row, 4, room);
-        judge(rt, is == (room == whole, true), row.2, room as u64);
+    for workspace in 0..whole + 1 {
+        let is = writes(rt, alloc, row, 4, workspace);
+        judge(
+            rt,
+            is == (workspace == whole, true),
+            row.2,
+            workspace as u64,
+        );
     }
 }
 
 #[test]
-fn a_rack_without_room_holds_a_prefix_of_the_rows(rt: HostRuntime) {
+fn a_rack_without_workspace_holds_a_prefix_of_the_rows(rt: HostRuntime) {
     for row in WRITTEN {
-        judge_rooms(&rt, rt.alloc(), row);
+        judge_workspaces(&rt, rt.alloc(), row);
     }
 }

@@ -3,7 +3,7 @@ use lists::list::List;
 use outside::distinct_names::have_distinct_names;
 use outside::endless_tray::EndlessTray;
 use outside::mem_tray::MemTray;
-use outside::reading::{ReadRefusal, read_file};
+use outside::reading::{ReadError, read_file};
 use std::alloc::Global;
 use std::process::Abort;
 
@@ -14,7 +14,7 @@ fn gives(alloc: Global, tray: &mut MemTray, name: &str, most: u32, want: Option<
             Some(text) => bytes.as_slice() == text.as_bytes(),
             None => false,
         },
-        Err(refusal) => want.is_none() && matches!(refusal, ReadRefusal::ReadFault),
+        Err(error) => want.is_none() && matches!(error, ReadError::ReadFault),
     }
 }
 

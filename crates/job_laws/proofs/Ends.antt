@@ -178,7 +178,7 @@ job-in_force objects len earlier later show job cut shows none is =
 -- Where statements are refused.
 
 -- a statement is refused, and none before it
-record Stops (objects : List Object) (now : State) (ss : List Statement) (first : JobFault) : Type 0 where
+record Errors (objects : List Object) (now : State) (ss : List Statement) (first : JobFault) : Type 0 where
   earlier : List Statement
   s : Statement
   later : List Statement
@@ -195,19 +195,19 @@ record RunsOff (objects : List Object) (len : ℕ) (now : State) (ss : List Stat
   done : after_all objects now ss ≡ Ok last
   is : first ≡ record { kind = NoShowpage; at = len }
 
-stops-one : (objects : List Object) (len : ℕ) (now : State) (s : Statement) (ss : List Statement) (first : JobFault) → ((next : State) → read_from objects len next ss ≡ Err first → Stops objects next ss first ⊎ RunsOff objects len next ss first)
-    → (fault_in objects s s.call.operator now ≡ Some first) ⊎ PassedOn objects s s.call.operator now (λ next. read_from objects len next ss) first → Stops objects now (s ∷ ss) first ⊎ RunsOff objects len now (s ∷ ss) first
+stops-one : (objects : List Object) (len : ℕ) (now : State) (s : Statement) (ss : List Statement) (first : JobFault) → ((next : State) → read_from objects len next ss ≡ Err first → Errors objects next ss first ⊎ RunsOff objects len next ss first)
+    → (fault_in objects s s.call.operator now ≡ Some first) ⊎ PassedOn objects s s.call.operator now (λ next. read_from objects len next ss) first → Errors objects now (s ∷ ss) first ⊎ RunsOff objects len now (s ∷ ss) first
 unfolding after_all
 stops-one objects len now s ss first more (inl has) = inl (record { earlier = []; s = s; later = ss; last = now; cut = refl; none_shows = All-nil Goes; done = refl; has = has })
 stops-one objects len now s ss first more (inr past) =
     ⊎_elim
-    (λ (stop : Stops objects past.next ss first).
-    inl (record { earlier = s ∷ stop.earlier; s = stop.s; later = stop.later; last = stop.last; cut = ap (λ l. s ∷ l) stop.cut; none_shows = All-cons Goes s stop.earlier past.goes stop.none_shows; done = ap (λ r. going_on r (λ n. after_all objects n stop.earlier)) past.does ∙ stop.done; has = stop.has }))
+    (λ (error : Errors objects past.next ss first).
+    inl (record { earlier = s ∷ error.earlier; s = error.s; later = error.later; last = error.last; cut = ap (λ l. s ∷ l) error.cut; none_shows = All-cons Goes s error.earlier past.goes error.none_shows; done = ap (λ r. going_on r (λ n. after_all objects n error.earlier)) past.does ∙ error.done; has = error.has }))
     (λ (off : RunsOff objects len past.next ss first).
     inr (record { last = off.last; none_shows = All-cons Goes s ss past.goes off.none_shows; done = ap (λ r. going_on r (λ n. after_all objects n ss)) past.does ∙ off.done; is = off.is }))
     (more past.next past.later)
 
-stops-at : (objects : List Object) (len : ℕ) (now : State) (ss : List Statement) (first : JobFault) → read_from objects len now ss ≡ Err first → Stops objects now ss first ⊎ RunsOff objects len now ss first
+stops-at : (objects : List Object) (len : ℕ) (now : State) (ss : List Statement) (first : JobFault) → read_from objects len now ss ≡ Err first → Errors objects now ss first ⊎ RunsOff objects len now ss first
 unfolding read_from after_all
 stops-at objects len now [] first is = let same : record { kind = NoShowpage; at = len } ≡ first = cc in inr (record { last = now; none_shows = All-nil Goes; done = refl; is = sym same })
 stops-at objects len now (s ∷ ss) first is =
@@ -253,8 +253,8 @@ ends-read objects len ss job end =
 pub read-faults : (objects : List Object) (len : ℕ) (ss : List Statement) (first : JobFault) → read_from objects len nothing_read ss ≡ Err first → IsFaultOf objects len ss first
 read-faults objects len ss first is =
     ⊎_elim
-    (λ (stop : Stops objects nothing_read ss first).
-    inl (record { earlier = stop.earlier; s = stop.s; later = stop.later; cut = stop.cut; none_before = performed-faultless objects stop.earlier stop.last stop.none_shows stop.done; has = fault-there objects stop.earlier stop.s stop.last stop.done ∙ stop.has }))
+    (λ (error : Errors objects nothing_read ss first).
+    inl (record { earlier = error.earlier; s = error.s; later = error.later; cut = error.cut; none_before = performed-faultless objects error.earlier error.last error.none_shows error.done; has = fault-there objects error.earlier error.s error.last error.done ∙ error.has }))
     (λ (off : RunsOff objects len nothing_read ss first).
     inr (record { none_at_all = performed-faultless objects ss off.last off.none_shows off.done; is = off.is }))
     (stops-at objects len nothing_read ss first is)

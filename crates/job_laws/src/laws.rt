@@ -74,7 +74,7 @@ pub fn fault_is_the_first_by_what_is_in_force()
         (fault : JobFault)
         → read_from objects len nothing_read statements ≡ Err fault
         → IsFaultOf objects len statements fault }
-    ensures told { (objects : List Object) (len : ℕ) (statements : List Statement)
+    ensures reported { (objects : List Object) (len : ℕ) (statements : List Statement)
         (fault : JobFault)
         → IsFaultOf objects len statements fault
         → read_from objects len nothing_read statements ≡ Err fault }
@@ -91,6 +91,6 @@ pub fn job_of_bytes_is_spelled()
 pub fn fault_of_bytes_stands()
     ensures stands { (bytes : List ℕ) (fault : JobFault) → job_of bytes ≡ Err fault
         → IsFaultOfBytes bytes fault }
-    ensures told { (bytes : List ℕ) (fault : JobFault) → IsFaultOfBytes bytes fault
+    ensures reported { (bytes : List ℕ) (fault : JobFault) → IsFaultOfBytes bytes fault
         → job_of bytes ≡ Err fault }
 {}

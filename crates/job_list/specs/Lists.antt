@@ -3,8 +3,8 @@ use Rattle.std.specs.Prelude.{◌≡◌, ◌≢◌, ◌⊎◌, ℕ, ◌<◌, ◌
 use Rattle.std.specs.Prelude.{Some, None, Result, Ok, Err}
 use Rattle.plain_words.specs.Distinct.{are_distinct}
 use Rattle.job_list.specs.Lines.{LineParts, line_of}
-use Rattle.job_list.specs.declared.reading.ListRefusal.{ListRefusal}
-use Rattle.job_list.specs.declared.reading.ListRefusal.TheVariants.{BadLine, OutOfMemory}
+use Rattle.job_list.specs.declared.reading.ListError.{ListError}
+use Rattle.job_list.specs.declared.reading.ListError.TheVariants.{BadLine, OutOfMemory}
 
 -- how many bytes and how many lines a list has at most
 abbrev pub longest_list : ℕ
@@ -63,7 +63,7 @@ pub record IsBadLine (bytes : List ℕ) (k : ℕ) : Type 0 where
       → Begins (texts ++ text ∷ []) more → ⊥
 
 -- what the answer says
-abbrev pub ReadsList : List ℕ → Result (List LineParts) ListRefusal → Type 0
+abbrev pub ReadsList : List ℕ → Result (List LineParts) ListError → Type 0
 ReadsList bytes (Ok lines) = IsList bytes lines
 ReadsList bytes (Err (BadLine k)) = IsBadLine bytes k
 ReadsList bytes (Err OutOfMemory) = Unit {0}

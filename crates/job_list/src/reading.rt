@@ -14,7 +14,7 @@ use std::alloc::Global;
 
 /// Why bytes could not be read as a list.
 #[derive(Clone, Copy, Debug, Drop, PartialEq, Eq)]
-pub enum ListRefusal {
+pub enum ListError {
     /// The first line that breaks the form, counted from 0.
     BadLine(u32),
     OutOfMemory,
@@ -30,7 +30,7 @@ const MOST_LINES: usize = 256;
 ///
 /// Otherwise the first line that breaks the form is refused: a text without its LF is one, and so are the 257th line,
 /// the line with byte 1,048,576, counted from 0, and line 0 of an empty list. Out of memory can come at any place.
-pub fn read_list(alloc: Global, bytes: &[u8]) -> Result<LineList, ListRefusal>
+pub fn read_list(alloc: Global, bytes: &[u8]) -> Result<LineList, ListError>
     ensures { ReadsList bytes.now result }
 {
     let mut lines = List::new(alloc);
@@ -42,10 +42,10 @@ pub fn read_list(alloc: Global, bytes: &[u8]) -> Result<LineList, ListRefusal>
         match next_line(alloc, &lines, bytes.len() - rest.len(), rest) {
             Ok(Some((line, suffix))) => match lines.push(line) {
                 Ok(()) => rest = suffix,
-                Err(_) => return Err(ListRefusal::OutOfMemory),
+                Err(_) => return Err(ListError::OutOfMemory),
             },
-            Ok(None) => return Err(ListRefusal::BadLine(number)),
-            Err(OutOfMemory) => return Err(ListRefusal::OutOfMemory),
+            Ok(None) => return Err(ListError::BadLine(number)),
+            Err(OutOfMemory) => return Err(ListError::OutOfMemory),
         }
     }
     unreachable!()

@@ -6,12 +6,12 @@ use Rattle.lists.specs.Words.{or_else}
 use Rattle.ps_tokens.specs.declared.faults.JobFault.{JobFault}
 use Rattle.ps_tokens.specs.declared.object.Object.{Object}
 use Rattle.job_pages.specs.declared.statement_spans.StatementSpan.{StatementSpan}
-use Rattle.job_pages.specs.declared.run.RunRefusal.{RunRefusal}
-use Rattle.job_pages.specs.declared.run.RunRefusal.TheVariants.{Fault, TooManyPages}
+use Rattle.job_pages.specs.declared.run.RunError.{RunError}
+use Rattle.job_pages.specs.declared.run.RunError.TheVariants.{Fault, TooManyPages}
 use Rattle.job_pages.specs.StatementSpans.{spans_of, shows}
-use Rattle.job_pages.specs.Runs.{end_fault, excess, last_of, objects_in, run_from, run_of, run_refusal, run_unless}
+use Rattle.job_pages.specs.Runs.{end_fault, excess, last_of, objects_in, run_from, run_of, run_error, run_unless}
 
-or_none : (first later : Option RunRefusal) → or_else first later ≡ None → later ≡ None
+or_none : (first later : Option RunError) → or_else first later ≡ None → later ≡ None
 or_none None later is = is
 or_none (Some r) later is = absurd (let e : Some r ≡ None = is in cc)
 
@@ -26,7 +26,7 @@ none_past shown is =
       | inr w ↦ w.0
     ]
 
-unless_ok : (r : Option RunRefusal) (spans found : List StatementSpan) → run_unless r spans ≡ Ok found → (r ≡ None) × (spans ≡ found)
+unless_ok : (r : Option RunError) (spans found : List StatementSpan) → run_unless r spans ≡ Ok found → (r ≡ None) × (spans ≡ found)
 unless_ok None spans found is = (refl, let e : Ok spans ≡ Ok found = is in cc)
 unless_ok (Some r) spans found is = absurd (let e : Err r ≡ Ok found = is in cc)
 
@@ -34,7 +34,7 @@ from_few : (len : ℕ) (objects : Result (List Object) JobFault) (found : List S
 from_few len (Err fault) found is = absurd (let e : Err (Fault fault) ≡ Ok found = is in cc)
 from_few len (Ok objects) found is =
     let shown = filter shows (spans_of objects) in
-    let both = unless_ok (run_refusal len objects shown) (spans_of objects) found is in
+    let both = unless_ok (run_error len objects shown) (spans_of objects) found is in
     let none = or_none (option_map Fault (end_fault len objects (last_of shown))) (excess (slice_get shown 256)) both.0 in
     subst (λ (ps : List StatementSpan). length (filter shows ps) ≤ 256) both.1 (none_past shown (excess_none (slice_get shown 256) none))
 

@@ -1,4 +1,4 @@
--- The pages of a job, or the first refusal.
+-- The pages of a job, or the first error.
 use Rattle.std.specs.Prelude.{◌≡◌, ℕ, List, [], length, filter, Option, Some, None, Result, Ok, Err}
 use Rattle.std.specs.Prelude.{slice_get, option_map, ◌+◌, ◌-◌, ◌<◌}
 use Rattle.lists.specs.Words.{or_else}
@@ -13,8 +13,8 @@ use Rattle.job_reader.specs.Jobs.{job_of}
 use Rattle.job_reader.specs.Statements.{after_fault}
 use Rattle.job_pages.specs.declared.statement_spans.StatementSpan.{StatementSpan}
 use Rattle.job_pages.specs.declared.run.Run.{Run}
-use Rattle.job_pages.specs.declared.run.RunRefusal.{RunRefusal}
-use Rattle.job_pages.specs.declared.run.RunRefusal.TheVariants.{Fault, TooManyPages, OutOfMemory}
+use Rattle.job_pages.specs.declared.run.RunError.{RunError}
+use Rattle.job_pages.specs.declared.run.RunError.TheVariants.{Fault, TooManyPages, OutOfMemory}
 use Rattle.job_pages.specs.PageText.{text_in}
 use Rattle.job_pages.specs.StatementSpans.{spans_of, shows}
 
@@ -42,50 +42,50 @@ abbrev pub last_of : List StatementSpan → Option StatementSpan
 last_of shown = slice_get shown (length shown - 1)
 
 -- the 257th `showpage`, if there is one
-abbrev pub excess : Option StatementSpan → Option RunRefusal
+abbrev pub excess : Option StatementSpan → Option RunError
 excess None = None
 excess (Some p) = Some (TooManyPages p.at)
 
--- the first refusal of a job of `len` bytes, where its objects have no fault, and these statements
+-- the first error of a job of `len` bytes, where its objects have no fault, and these statements
 -- end its pages
-abbrev pub run_refusal : ℕ → List Object → List StatementSpan → Option RunRefusal
-run_refusal len objects shown =
+abbrev pub run_error : ℕ → List Object → List StatementSpan → Option RunError
+run_error len objects shown =
     or_else (option_map Fault (end_fault len objects (last_of shown)))
     (excess (slice_get shown most_pages))
 
--- statements, unless there is a refusal
-abbrev pub run_unless : Option RunRefusal → List StatementSpan
-    → Result (List StatementSpan) RunRefusal
+-- statements, unless there is a error
+abbrev pub run_unless : Option RunError → List StatementSpan
+    → Result (List StatementSpan) RunError
 run_unless None spans = Ok spans
-run_unless (Some refusal) spans = Err refusal
+run_unless (Some error) spans = Err error
 
-abbrev pub run_from : ℕ → Result (List Object) JobFault → Result (List StatementSpan) RunRefusal
+abbrev pub run_from : ℕ → Result (List Object) JobFault → Result (List StatementSpan) RunError
 run_from len (Err fault) = Err (Fault fault)
 run_from len (Ok objects) =
-    run_unless (run_refusal len objects (filter shows (spans_of objects))) (spans_of objects)
+    run_unless (run_error len objects (filter shows (spans_of objects))) (spans_of objects)
 
 -- The statements of a job of many pages. First of all the whole job's tokens and then its objects
 -- are judged; then it has to have a `showpage`, no object may stand after the last one, and there
 -- may be 256.
-unfoldable pub run_of : List ℕ → Result (List StatementSpan) RunRefusal
+unfoldable pub run_of : List ℕ → Result (List StatementSpan) RunError
 run_of bytes = run_from (length bytes) (objects_in bytes)
 
 -- how many pages statements show
 abbrev pub pages_in : List StatementSpan → ℕ
 pages_in spans = length (filter shows spans)
 
-abbrev pub count_from : Result (List StatementSpan) RunRefusal → Result ℕ RunRefusal
+abbrev pub count_from : Result (List StatementSpan) RunError → Result ℕ RunError
 count_from (Ok spans) = Ok (pages_in spans)
-count_from (Err refusal) = Err refusal
+count_from (Err error) = Err error
 
 -- how many pages a job has
-abbrev pub count_of : List ℕ → Result ℕ RunRefusal
+abbrev pub count_of : List ℕ → Result ℕ RunError
 count_of bytes = count_from (run_of bytes)
 
 -- the statements of a run, none where it is refused
-abbrev pub statements_in : Result (List StatementSpan) RunRefusal → List StatementSpan
+abbrev pub statements_in : Result (List StatementSpan) RunError → List StatementSpan
 statements_in (Ok spans) = spans
-statements_in (Err refusal) = []
+statements_in (Err error) = []
 
 -- the text of page k
 abbrev pub page_text : List ℕ → ℕ → List ℕ
@@ -96,14 +96,14 @@ abbrev pub page_job_of : List ℕ → ℕ → Result Job JobFault
 page_job_of bytes k = job_of (page_text bytes k)
 
 -- A call gives what a definition does, unless memory runs out.
-abbrev pub GivesRun : {X : Type 0} → Result X RunRefusal → Result X RunRefusal → Type 0
+abbrev pub GivesRun : {X : Type 0} → Result X RunError → Result X RunError → Type 0
 GivesRun (Ok x) meant = meant ≡ Ok x
 GivesRun (Err OutOfMemory) meant = Unit {0}
 GivesRun (Err (Fault fault)) meant = meant ≡ Err (Fault fault)
 GivesRun (Err (TooManyPages at)) meant = meant ≡ Err (TooManyPages at)
 
 -- A run is read, with the statements that end its pages beside the others.
-abbrev pub IsRun : Result Run RunRefusal → Result (List StatementSpan) RunRefusal → Type 0
+abbrev pub IsRun : Result Run RunError → Result (List StatementSpan) RunError → Type 0
 IsRun (Ok run) meant = (meant ≡ Ok run.spans) × (run.shown ≡ filter shows run.spans)
 IsRun (Err OutOfMemory) meant = Unit {0}
 IsRun (Err (Fault fault)) meant = meant ≡ Err (Fault fault)
@@ -113,8 +113,8 @@ IsRun (Err (TooManyPages at)) meant = meant ≡ Err (TooManyPages at)
 abbrev pub HasPage : List ℕ → ℕ → Type 0
 HasPage bytes k = (count : ℕ) × (count_of bytes ≡ Ok count) × (k < count)
 
--- A job of many pages is read, or its refusal is given.
-abbrev pub IsManyPages : List ℕ → Result (List ℕ) RunRefusal → Type 0
+-- A job of many pages is read, or its error is given.
+abbrev pub IsManyPages : List ℕ → Result (List ℕ) RunError → Type 0
 IsManyPages bytes (Ok read) = (read ≡ bytes) × ((count : ℕ) × (count_of bytes ≡ Ok count))
 IsManyPages bytes (Err OutOfMemory) = Unit {0}
 IsManyPages bytes (Err (Fault fault)) = run_of bytes ≡ Err (Fault fault)

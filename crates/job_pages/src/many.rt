@@ -5,10 +5,10 @@ ghost use Rattle.job_reader.specs.InRange.{IsJob};
 ghost use Rattle.job_pages.specs.Runs.{HasPage, IsManyPages, count_of, page_job_of};
 
 use crate::page::job_in;
-use crate::run::{Run, RunRefusal, read_run};
+use crate::run::{Run, RunError, read_run};
 use job_reader::job::Job;
 use lists::names::Name;
-use ps_tokens::faults::JobRefusal;
+use ps_tokens::faults::JobError;
 use std::alloc::Global;
 use std::marker::Model;
 
@@ -34,14 +34,14 @@ impl Model for ManyPages {
 }
 
 impl ManyPages {
-    /// Reads the statements of a job of at most `ps_tokens::LONGEST_JOB` bytes, with the refusals of `page_count`.
-    pub fn new(alloc: Global, bytes: Name) -> Result<ManyPages, RunRefusal>
+    /// Reads the statements of a job of at most `ps_tokens::LONGEST_JOB` bytes, with the errors of `page_count`.
+    pub fn new(alloc: Global, bytes: Name) -> Result<ManyPages, RunError>
         requires { length bytes ≤ longest_job }
         ensures { IsManyPages bytes result }
     {
         match read_run(alloc, bytes.as_slice()) {
             Ok(run) => Ok(ManyPages { bytes, run }),
-            Err(refusal) => Err(refusal),
+            Err(error) => Err(error),
         }
     }
 
@@ -53,7 +53,7 @@ impl ManyPages {
     }
 
     /// The job of page k, counted from 0, or its fault, as `page_job` gives it.
-    pub fn job(&self, alloc: Global, k: u32) -> Result<Job, JobRefusal>
+    pub fn job(&self, alloc: Global, k: u32) -> Result<Job, JobError>
         requires { HasPage self.now k }
         ensures given { Gives result (page_job_of self.now k) }
         ensures in_range { IfOk result (λ job. IsJob job) }

@@ -7,12 +7,12 @@ ghost use Rattle.job_pages.specs.PageText.{blanked, is_left_after, text_in};
 ghost use Rattle.job_pages.specs.StatementSpans.{shows};
 ghost use Rattle.job_pages.specs.Runs.{HasPage, page_job_of};
 
-use crate::run::{Run, RunRefusal, read_run};
+use crate::run::{Run, RunError, read_run};
 use crate::statement_spans::StatementSpan;
 use job_reader::job::Job;
 use job_reader::reader::read_job;
 use lists::names::OutOfMemory;
-use ps_tokens::faults::JobRefusal;
+use ps_tokens::faults::JobError;
 use std::alloc::Global;
 
 /// The job of page k of a job of many pages, counted from 0, or its fault. Parameters, limits, resolution, Trapping and
@@ -20,7 +20,7 @@ use std::alloc::Global;
 /// job.
 ///
 /// The job has more than k pages by `page_count`.
-pub fn page_job(alloc: Global, bytes: &[u8], k: u32) -> Result<Job, JobRefusal>
+pub fn page_job(alloc: Global, bytes: &[u8], k: u32) -> Result<Job, JobError>
     requires size { length bytes.now ≤ longest_job }
     requires page { HasPage bytes.now k }
     ensures given { Gives result (page_job_of bytes.now k) }
@@ -28,13 +28,13 @@ pub fn page_job(alloc: Global, bytes: &[u8], k: u32) -> Result<Job, JobRefusal>
 {
     match read_run(alloc, bytes) {
         Ok(run) => job_in(alloc, &run, bytes, k),
-        Err(RunRefusal::OutOfMemory) => Err(JobRefusal::OutOfMemory),
+        Err(RunError::OutOfMemory) => Err(JobError::OutOfMemory),
         Err(_) => unreachable!(),
     }
 }
 
 /// Does what `page_job` does, with the statements that `read_run` gave for these bytes.
-pub fn job_in(alloc: Global, run: &Run, bytes: &[u8], k: u32) -> Result<Job, JobRefusal>
+pub fn job_in(alloc: Global, run: &Run, bytes: &[u8], k: u32) -> Result<Job, JobError>
     requires shown { run.now.shown ≡ filter shows run.now.spans }
     requires page { k < length run.now.shown }
     ensures given { Gives result (job_of (text_in run.now.spans bytes.now k)) }
@@ -42,7 +42,7 @@ pub fn job_in(alloc: Global, run: &Run, bytes: &[u8], k: u32) -> Result<Job, Job
 {
     match text_in(alloc, run, bytes, k) {
         Ok(text) => read_job(alloc, text.as_slice()),
-        Err(OutOfMemory) => Err(JobRefusal::OutOfMemory),
+        Err(OutOfMemory) => Err(JobError::OutOfMemory),
     }
 }
 

@@ -6,4 +6,4 @@ pub mod Colorants
 pub mod Details
 pub mod InkDetails
 pub mod Paths
-pub mod Refusals
+pub mod CommonErrors

@@ -8,7 +8,7 @@ use crate::colorants::colorants_at;
 use lists::list::List;
 use page_model::parts::{DetailList, OutOfMemory};
 use ps_tokens::entry_errors::{EntryError, at_place};
-use ps_tokens::faults::{FaultKind, JobFault, JobRefusal};
+use ps_tokens::faults::{FaultKind, JobError, JobFault};
 use ps_tokens::object::{Body, ObjectList};
 use ps_tokens::{last, last_value};
 use std::alloc::Global;
@@ -20,7 +20,7 @@ use std::alloc::Global;
 /// not 1001; `BadDensity` where NeutralDensity is no number from 0.001 to 10; `BadKind` where ColorantType is none of the
 /// four names; `MissingKey` where a dictionary lacks Type or NeutralDensity, at its `<<`. Entries are judged in the order
 /// of their keys, the last of each key alone, and a missing one after them.
-pub fn inks(alloc: Global, objects: &ObjectList, details: u32) -> Result<DetailList, JobRefusal>
+pub fn inks(alloc: Global, objects: &ObjectList, details: u32) -> Result<DetailList, JobError>
     requires { AreObjects objects.now }
     ensures given { Gives result (details_of objects.now details) }
     ensures ascending { IfOk result (λ inks. AscendByName inks) }
@@ -29,7 +29,7 @@ pub fn inks(alloc: Global, objects: &ObjectList, details: u32) -> Result<DetailL
         return Ok(List::new(alloc));
     };
     if !object.body.is_dict() {
-        return Err(JobRefusal::Fault(JobFault {
+        return Err(JobError::Fault(JobFault {
             kind: FaultKind::NotDictionary,
             at: object.at,
         }));
@@ -38,11 +38,11 @@ pub fn inks(alloc: Global, objects: &ObjectList, details: u32) -> Result<DetailL
     let value = last(objects, details, b"ColorantDetails");
     let colorants = match colorants_at(alloc, objects, value) {
         Ok(colorants) => colorants,
-        Err(OutOfMemory) => return Err(JobRefusal::OutOfMemory),
+        Err(OutOfMemory) => return Err(JobError::OutOfMemory),
     };
     match details_from(object.at, typed, colorants) {
         Ok(inks) => Ok(inks),
-        Err(fault) => Err(JobRefusal::Fault(fault)),
+        Err(fault) => Err(JobError::Fault(fault)),
     }
 }
 

@@ -11,7 +11,7 @@ use page_model::bounds::LONGEST_NAME;
 use page_model::parts::{Limit, LimitList, OutOfMemory};
 use ps_tokens::dictionary::count;
 use ps_tokens::entry_errors::{EntryError, at_key, at_place, earlier};
-use ps_tokens::faults::{FaultKind, JobFault, JobRefusal};
+use ps_tokens::faults::{FaultKind, JobError, JobFault};
 use ps_tokens::names::{last_keys, name_at};
 use ps_tokens::object::{Body, ObjectList};
 use ps_tokens::parameters::Key;
@@ -29,7 +29,7 @@ pub fn zone_limits(
     now: &LimitList,
     objects: &ObjectList,
     dict: u32,
-) -> Result<LimitList, JobRefusal>
+) -> Result<LimitList, JobError>
     requires { AreObjects objects.now }
     ensures given { Gives result (limits_after now.now objects.now dict) }
     ensures ascending { AscendByName now.now → IfOk result (λ limits. AscendByName limits) }
@@ -37,7 +37,7 @@ pub fn zone_limits(
     let Some(place) = last(objects, dict, b"ColorantZoneDetails") else {
         return match copy_of(alloc, now) {
             Ok(limits) => Ok(limits),
-            Err(OutOfMemory) => Err(JobRefusal::OutOfMemory),
+            Err(OutOfMemory) => Err(JobError::OutOfMemory),
         };
     };
     let Some(object) = objects.get(place as usize) else {
@@ -46,7 +46,7 @@ pub fn zone_limits(
     if object.body.is_dict() {
         limits_in(alloc, objects, place)
     } else {
-        Err(JobRefusal::Fault(JobFault {
+        Err(JobError::Fault(JobFault {
             kind: FaultKind::NotDictionary,
             at: object.at,
         }))
@@ -54,20 +54,20 @@ pub fn zone_limits(
 }
 
 // The limits of the colorants that the dictionary at a place names.
-fn limits_in(alloc: Global, objects: &ObjectList, place: u32) -> Result<LimitList, JobRefusal>
+fn limits_in(alloc: Global, objects: &ObjectList, place: u32) -> Result<LimitList, JobError>
     requires { AreObjects objects.now }
     ensures { let keys = last_keys_of objects.now place in
         Gives result (unless (first_error objects.now keys) (limits_of objects.now keys)) }
 {
     let keys = match last_keys(alloc, objects, place) {
         Ok(keys) => keys,
-        Err(OutOfMemory) => return Err(JobRefusal::OutOfMemory),
+        Err(OutOfMemory) => return Err(JobError::OutOfMemory),
     };
     match first_error(objects, &keys) {
-        Some(error) => Err(JobRefusal::Fault(error.fault)),
+        Some(error) => Err(JobError::Fault(error.fault)),
         None => match limits_of(alloc, objects, &keys) {
             Ok(limits) => Ok(List::from_vec(limits)),
-            Err(OutOfMemory) => Err(JobRefusal::OutOfMemory),
+            Err(OutOfMemory) => Err(JobError::OutOfMemory),
         },
     }
 }

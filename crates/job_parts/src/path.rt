@@ -1,7 +1,7 @@
 ghost use Rattle.std.specs.Prelude.{◌≡◌, ◌≤◌, ◌++◌, ◌∷◌, [], length, MatchResult};
 ghost use Rattle.page_model.specs.Conditions.{IsPath};
 ghost use Rattle.job_parts.specs.Paths.{nothing_drawn, moveto, lineto, rmoveto, rlineto, closepath, begun_at, lined_to};
-ghost use Rattle.job_parts.specs.Refusals.{Draws, Extends};
+ghost use Rattle.job_parts.specs.CommonErrors.{Draws, Extends};
 ghost use Rattle.page_model.specs.Limits.{most_vertices};
 
 use crate::pen::{Pen, Point, is_near, offset_point, vertex_at};
@@ -14,7 +14,7 @@ use std::marker::Model;
 
 /// Why a path statement was not drawn.
 #[derive(Clone, Copy, Debug, Drop, PartialEq, Eq)]
-pub enum PathRefusal {
+pub enum PathError {
     Fault(FaultKind),
     OutOfMemory,
 }
@@ -61,8 +61,8 @@ impl Path {
     /// `moveto`: begins a subpath with one vertex, in ten-thousandths of a point (PLRM3, section 8.2).
     ///
     /// `CoordinateRange` where a coordinate is more than a million points from the origin; then `TooManyVertices` where
-    /// the path would have more than 4,096. A refusal leaves the path as it was.
-    pub fn moveto(&mut self, x: i64, y: i64) -> Result<(), PathRefusal>
+    /// the path would have more than 4,096. A error leaves the path as it was.
+    pub fn moveto(&mut self, x: i64, y: i64) -> Result<(), PathError>
         ensures { Draws result self.old self.new (moveto x y self.old) }
     {
         match begin(&mut self.vertices, Point { x, y }) {
@@ -70,22 +70,22 @@ impl Path {
                 self.pen = Some(pen);
                 Ok(())
             }
-            Err(refusal) => Err(refusal),
+            Err(error) => Err(error),
         }
     }
 
     /// `rmoveto`: begins a subpath at the current point moved by `dx` and `dy` (PLRM3, section 8.2).
     ///
     /// `NoCurrentPoint` where the path has none, and then the faults of `moveto`.
-    pub fn rmoveto(&mut self, dx: i64, dy: i64) -> Result<(), PathRefusal>
+    pub fn rmoveto(&mut self, dx: i64, dy: i64) -> Result<(), PathError>
         ensures { Draws result self.old self.new (rmoveto dx dy self.old) }
     {
         let Some(pen) = self.pen else {
-            return Err(PathRefusal::Fault(FaultKind::NoCurrentPoint));
+            return Err(PathError::Fault(FaultKind::NoCurrentPoint));
         };
         match offset_point(pen.at, dx, dy) {
             Some(point) => self.moveto(point.x, point.y),
-            None => Err(PathRefusal::Fault(FaultKind::CoordinateRange)),
+            None => Err(PathError::Fault(FaultKind::CoordinateRange)),
         }
     }
 
@@ -93,18 +93,18 @@ impl Path {
     /// subpath at the current point.
     ///
     /// `NoCurrentPoint` where the path has none, and then the faults of `moveto`.
-    pub fn lineto(&mut self, x: i64, y: i64) -> Result<(), PathRefusal>
+    pub fn lineto(&mut self, x: i64, y: i64) -> Result<(), PathError>
         ensures { Draws result self.old self.new (lineto x y self.old) }
     {
         let Some(pen) = self.pen else {
-            return Err(PathRefusal::Fault(FaultKind::NoCurrentPoint));
+            return Err(PathError::Fault(FaultKind::NoCurrentPoint));
         };
         match draw_line(&mut self.vertices, pen, Point { x, y }) {
             Ok(pen) => {
                 self.pen = Some(pen);
                 Ok(())
             }
-            Err(refusal) => Err(refusal),
+            Err(error) => Err(error),
         }
     }
 
@@ -112,15 +112,15 @@ impl Path {
     /// first begins a subpath at the current point.
     ///
     /// `NoCurrentPoint` where the path has none, and then the faults of `moveto`.
-    pub fn rlineto(&mut self, dx: i64, dy: i64) -> Result<(), PathRefusal>
+    pub fn rlineto(&mut self, dx: i64, dy: i64) -> Result<(), PathError>
         ensures { Draws result self.old self.new (rlineto dx dy self.old) }
     {
         let Some(pen) = self.pen else {
-            return Err(PathRefusal::Fault(FaultKind::NoCurrentPoint));
+            return Err(PathError::Fault(FaultKind::NoCurrentPoint));
         };
         match offset_point(pen.at, dx, dy) {
             Some(point) => self.lineto(point.x, point.y),
-            None => Err(PathRefusal::Fault(FaultKind::CoordinateRange)),
+            None => Err(PathError::Fault(FaultKind::CoordinateRange)),
         }
     }
 
@@ -160,16 +160,16 @@ impl Path {
 
 // Begins a subpath at a point.
 #[tactic(auto, unfolding(crate::specs::Paths::begun_at))]
-fn begin(vertices: &mut Vec<Vertex>, point: Point) -> Result<Pen, PathRefusal>
+fn begin(vertices: &mut Vec<Vertex>, point: Point) -> Result<Pen, PathError>
     requires { length vertices.old.items ≤ most_vertices }
     ensures { Extends result vertices.old.items vertices.new.items
         (begun_at vertices.old.items point) }
 {
     if !is_near(point) {
-        return Err(PathRefusal::Fault(FaultKind::CoordinateRange));
+        return Err(PathError::Fault(FaultKind::CoordinateRange));
     }
     if vertices.len() + 1 > MOST_VERTICES {
-        return Err(PathRefusal::Fault(FaultKind::TooManyVertices));
+        return Err(PathError::Fault(FaultKind::TooManyVertices));
     }
     match vertices.push(vertex_at(point, true)) {
         Ok(()) => Ok(Pen {
@@ -177,23 +177,23 @@ fn begin(vertices: &mut Vec<Vertex>, point: Point) -> Result<Pen, PathRefusal>
             at: point,
             closed: false,
         }),
-        Err(_) => Err(PathRefusal::OutOfMemory),
+        Err(_) => Err(PathError::OutOfMemory),
     }
 }
 
 // Draws a line to a point.
 #[tactic(auto, unfolding(crate::specs::Paths::lined_to))]
-fn draw_line(vertices: &mut Vec<Vertex>, pen: Pen, point: Point) -> Result<Pen, PathRefusal>
+fn draw_line(vertices: &mut Vec<Vertex>, pen: Pen, point: Point) -> Result<Pen, PathError>
     requires { length vertices.old.items ≤ most_vertices }
     ensures { Extends result vertices.old.items vertices.new.items
         (lined_to vertices.old.items pen point) }
 {
     if !is_near(point) {
-        return Err(PathRefusal::Fault(FaultKind::CoordinateRange));
+        return Err(PathError::Fault(FaultKind::CoordinateRange));
     }
     let more = if pen.closed { 2 } else { 1 };
     if vertices.len() + more > MOST_VERTICES {
-        return Err(PathRefusal::Fault(FaultKind::TooManyVertices));
+        return Err(PathError::Fault(FaultKind::TooManyVertices));
     }
     let added = if pen.closed {
         push_both(vertices, vertex_at(pen.at, true), vertex_at(point, false))
@@ -206,7 +206,7 @@ fn draw_line(vertices: &mut Vec<Vertex>, pen: Pen, point: Point) -> Result<Pen, 
             at: point,
             closed: false,
         }),
-        Err(OutOfMemory) => Err(PathRefusal::OutOfMemory),
+        Err(OutOfMemory) => Err(PathError::OutOfMemory),
     }
 }
 

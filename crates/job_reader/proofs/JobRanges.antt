@@ -12,7 +12,7 @@ use Rattle.ps_tokens.specs.declared.faults.FaultKind.TheVariants.{JobTooLong, No
 use Rattle.ps_tokens.specs.declared.faults.JobFault.{JobFault}
 use Rattle.ps_tokens.specs.declared.object.Object.{Object}
 use Rattle.ps_tokens.specs.declared.token.Token.{Token}
-use Rattle.ps_tokens.specs.declared.faults.JobRefusal.{JobRefusal}
+use Rattle.ps_tokens.specs.declared.faults.JobError.{JobError}
 use Rattle.ps_tokens.specs.Limits.{longest_job}
 use Rattle.ps_tokens.proofs.Giving.{IfOk-given}
 use Rattle.ps_tokens.specs.Tokens.{Gives, tokens_of}
@@ -134,5 +134,5 @@ unfolding job_of
 job_of-in_range bytes = short_if (nat_lt longest_job (length bytes)) bytes
 
 -- a job that is given, of bytes that are not too many
-pub tokens_given-in_range : (bytes : List ℕ) (r : Result Job JobRefusal) → Gives r (job_of_tokens bytes (tokens_of bytes)) → IfOk r (λ job. IsJob job)
+pub tokens_given-in_range : (bytes : List ℕ) (r : Result Job JobError) → Gives r (job_of_tokens bytes (tokens_of bytes)) → IfOk r (λ job. IsJob job)
 tokens_given-in_range bytes r given = IfOk-given (λ job. IsJob job) (job_of_tokens bytes (tokens_of bytes)) r given (tokens-make bytes (tokens_of bytes))

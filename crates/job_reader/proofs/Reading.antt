@@ -4,8 +4,8 @@ use Rattle.std.specs.Prelude.{slice_get}
 use Rattle.std.proofs.lemmas.List.{at_drop_all}
 use Rattle.ps_tokens.specs.declared.faults.FaultKind.TheVariants.{UnknownOperator, NoShowpage}
 use Rattle.ps_tokens.specs.declared.faults.JobFault.{JobFault}
-use Rattle.ps_tokens.specs.declared.faults.JobRefusal.{JobRefusal}
-use Rattle.ps_tokens.specs.declared.faults.JobRefusal.TheVariants as refusals
+use Rattle.ps_tokens.specs.declared.faults.JobError.{JobError}
+use Rattle.ps_tokens.specs.declared.faults.JobError.TheVariants as errors
 use Rattle.ps_tokens.specs.declared.object.Object.{Object}
 use Rattle.ps_tokens.specs.Tokens.{Fails}
 use Rattle.job_reader.specs.declared.calls.Call.{Call}
@@ -75,11 +75,11 @@ read_on-state_after objects len now next from place call operator lt is called s
     read_on-performed_by objects len now from place call operator (Ok next) lt is called shows does
 
 -- it is refused
-pub read_on-refused : (objects : List Object) (len : ℕ) (now : State) (from place : ℕ) (call : Call) (operator : Operator) (refusal : JobRefusal) → place < length objects → call_of (slice_get objects place) ≡ Some call → call.operator ≡ Some operator → is_showpage operator ≡ false → Fails refusal (state_after objects from place call.at operator now)
-    → Fails refusal (read_on objects len now from place)
-read_on-refused objects len now from place call operator (refusals.Fault first) lt is called shows does =
+pub read_on-refused : (objects : List Object) (len : ℕ) (now : State) (from place : ℕ) (call : Call) (operator : Operator) (common_error : JobError) → place < length objects → call_of (slice_get objects place) ≡ Some call → call.operator ≡ Some operator → is_showpage operator ≡ false → Fails common_error (state_after objects from place call.at operator now)
+    → Fails common_error (read_on objects len now from place)
+read_on-refused objects len now from place call operator (errors.Fault first) lt is called shows does =
     read_on-performed_by objects len now from place call operator (Err first) lt is called shows does
-read_on-refused objects len now from place call operator refusals.OutOfMemory lt is called shows does = tt
+read_on-refused objects len now from place call operator errors.OutOfMemory lt is called shows does = tt
 
 -- no object is left
 pub read_on-end : (objects : List Object) (len : ℕ) (now : State) (from place : ℕ) → length objects ≤ place → read_on objects len now from place ≡ fault NoShowpage len

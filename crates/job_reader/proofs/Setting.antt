@@ -155,14 +155,14 @@ fits_if : (P : State → Type 0) (b : Bool) (at : ℕ) (now made : State) → P 
 fits_if P true at now made is = faulty P TooManyVertices at
 fits_if P false at now made is = left P made is
 
-room_if : (P : State → Type 0) (b : Bool) (at : ℕ) (r : Result State JobFault) → Left P r → Left P (cond b (fault TooManyZones at) r)
-room_if P true at r gives = faulty P TooManyZones at
-room_if P false at r gives = gives
+workspace_if : (P : State → Type 0) (b : Bool) (at : ℕ) (r : Result State JobFault) → Left P r → Left P (cond b (fault TooManyZones at) r)
+workspace_if P true at r gives = faulty P TooManyZones at
+workspace_if P false at r gives = gives
 
 made-left : (P : State → Type 0) (at : ℕ) (now : State) → Whatever P now → Left P (zone_made at now)
 made-left P at now all =
     let made : State = record now { zones = now.zones ++ zone_of now ∷ []; path = nothing_drawn; vertices = now.vertices + length now.path.vertices } in
-    room_if P (nat_le most_job_zones (length now.zones)) at (cond (nat_lt most_vertices_in_all (now.vertices + length now.path.vertices)) (fault TooManyVertices at) (Ok made))
+    workspace_if P (nat_le most_job_zones (length now.zones)) at (cond (nat_lt most_vertices_in_all (now.vertices + length now.path.vertices)) (fault TooManyVertices at) (Ok made))
     (fits_if P (nat_lt most_vertices_in_all (now.vertices + length now.path.vertices)) at now made (all nothing_drawn (now.zones ++ zone_of now ∷ []) (now.vertices + length now.path.vertices)))
 
 pub others-left : (P : State → Type 0) (objects : List Object) (from place at : ℕ) (now : State) → Whatever P now → (o : Operator) → is_setpagedevice o ≡ false → is_settrapparams o ≡ false → Left P (state_after objects from place at o now)

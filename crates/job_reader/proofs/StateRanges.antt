@@ -195,7 +195,7 @@ zone_of-zone now here = record { params = here.params; path = here.path.path; li
 
 one_more : (now : State) → IsState now → nat_le most_job_zones (length now.zones) ≡ false → nat_lt most_vertices_in_all (now.vertices + length now.path.vertices) ≡ false
     → IsState (record now { zones = now.zones ++ zone_of now ∷ []; path = nothing_drawn; vertices = now.vertices + length now.path.vertices })
-one_more now here room vertices =
+one_more now here workspace vertices =
     let few : length now.zones < 250 = grind (arith, nat_tests) in
     let fit : now.vertices + length now.path.vertices ≤ 16384 = grind (arith, nat_tests) in
     let longer = length-append now.zones (zone_of now ∷ []) in
@@ -215,16 +215,16 @@ one_more now here room vertices =
 
 fits_if : (b : Bool) (at : ℕ) (now : State) → IsState now → nat_le most_job_zones (length now.zones) ≡ false → nat_lt most_vertices_in_all (now.vertices + length now.path.vertices) ≡ b
     → Leaves (cond b (fault TooManyVertices at) (Ok (record now { zones = now.zones ++ zone_of now ∷ []; path = nothing_drawn; vertices = now.vertices + length now.path.vertices })))
-fits_if true at now here room vertices = faulty TooManyVertices at
-fits_if false at now here room vertices = leaves _ (one_more now here room vertices)
+fits_if true at now here workspace vertices = faulty TooManyVertices at
+fits_if false at now here workspace vertices = leaves _ (one_more now here workspace vertices)
 
-room_if : (b : Bool) (at : ℕ) (now : State) → IsState now → nat_le most_job_zones (length now.zones) ≡ b
+workspace_if : (b : Bool) (at : ℕ) (now : State) → IsState now → nat_le most_job_zones (length now.zones) ≡ b
     → Leaves (cond b (fault TooManyZones at) (cond (nat_lt most_vertices_in_all (now.vertices + length now.path.vertices)) (fault TooManyVertices at) (Ok (record now { zones = now.zones ++ zone_of now ∷ []; path = nothing_drawn; vertices = now.vertices + length now.path.vertices }))))
-room_if true at now here room = faulty TooManyZones at
-room_if false at now here room = fits_if (nat_lt most_vertices_in_all (now.vertices + length now.path.vertices)) at now here room refl
+workspace_if true at now here workspace = faulty TooManyZones at
+workspace_if false at now here workspace = fits_if (nat_lt most_vertices_in_all (now.vertices + length now.path.vertices)) at now here workspace refl
 
 zone_made-leaves : (at : ℕ) (now : State) → IsState now → Leaves (zone_made at now)
-zone_made-leaves at now here = room_if (nat_le most_job_zones (length now.zones)) at now here refl
+zone_made-leaves at now here = workspace_if (nat_le most_job_zones (length now.zones)) at now here refl
 
 -- each statement
 pub state_after-leaves : (objects : List Object) (from place at : ℕ) (operator : Operator) (now : State) → IsState now → Leaves (state_after objects from place at operator now)

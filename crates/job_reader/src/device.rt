@@ -7,15 +7,15 @@ ghost use Rattle.job_reader.specs.Performing.{Performs};
 use crate::operands::number_at;
 use crate::state::State;
 use job_parts::inks;
+use job_parts::settings::boolean_after;
 use page_model::bounds::{MOST_RESOLUTION, SCALE};
 use page_model::parts::{DetailList, OutOfMemory};
 use ps_tokens::entry_errors::{EntryError, at_place, earlier};
-use ps_tokens::faults::{FaultKind, JobFault, JobRefusal};
+use ps_tokens::faults::{FaultKind, JobError, JobFault};
 use ps_tokens::object::{Body, Object, ObjectList};
 use ps_tokens::parameters::Key;
 use ps_tokens::{last, last_value};
 use std::alloc::Global;
-use job_parts::settings::boolean_after;
 
 // 1 in ten-thousandths, and the finest resolution in them.
 const ONE: u64 = SCALE as u64;
@@ -32,7 +32,7 @@ pub fn set_page_device(
     objects: &ObjectList,
     dict: u32,
     state: &mut State,
-) -> Result<(), JobRefusal>
+) -> Result<(), JobError>
     requires { AreObjects objects.now }
     ensures { Performs result state.new (device_set objects.now dict state.old) }
 {
@@ -40,7 +40,7 @@ pub fn set_page_device(
     let trapping = boolean_after(objects, dict, Key::Trapping, state.trapping);
     match details_in(alloc, objects, dict) {
         Ok(details) => set_from(resolution, trapping, details, state),
-        Err(OutOfMemory) => Err(JobRefusal::OutOfMemory),
+        Err(OutOfMemory) => Err(JobError::OutOfMemory),
     }
 }
 
@@ -50,7 +50,7 @@ fn set_from(
     trapping: Result<bool, EntryError>,
     details: Result<Option<DetailList>, EntryError>,
     state: &mut State,
-) -> Result<(), JobRefusal>
+) -> Result<(), JobError>
     ensures { Performs result state.new (device_from resolution trapping details state.old) }
 {
     let (details, error) = match details {
@@ -59,7 +59,7 @@ fn set_from(
     };
     let first = earlier(resolution.err(), earlier(trapping.err(), error));
     if let Some(error) = first {
-        return Err(JobRefusal::Fault(error.fault));
+        return Err(JobError::Fault(error.fault));
     }
     if let Ok(resolution) = resolution {
         state.resolution = resolution;
@@ -179,9 +179,9 @@ fn inks_at(
 {
     match inks(alloc, objects, place) {
         Ok(inks) => Ok(Ok(inks)),
-        Err(refusal) => match refusal {
-            JobRefusal::Fault(fault) => Ok(Err(fault)),
-            JobRefusal::OutOfMemory => Err(OutOfMemory),
+        Err(common_error) => match common_error {
+            JobError::Fault(fault) => Ok(Err(fault)),
+            JobError::OutOfMemory => Err(OutOfMemory),
         },
     }
 }

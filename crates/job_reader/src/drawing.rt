@@ -1,15 +1,15 @@
 ghost use Rattle.std.specs.Prelude.{◌≡◌, ◌<◌, ◌^◌};
-ghost use Rattle.job_parts.specs.Refusals.{Draws};
+ghost use Rattle.job_parts.specs.CommonErrors.{Draws};
 ghost use Rattle.job_reader.specs.declared.operators.Operator.TheVariants.{NewPath, ClosePath};
 ghost use Rattle.job_reader.specs.Operands.{two_numbers};
-ghost use Rattle.job_reader.specs.Performing.{Performs, refusal_at};
+ghost use Rattle.job_reader.specs.Performing.{Performs, error_at};
 ghost use Rattle.job_reader.specs.Statements.{path_drawn, state_after, stroke_on, with_numbers};
 
 use crate::operands::{two_numbers, wrong_operands};
 use crate::state::State;
-use ps_tokens::faults::{JobFault, JobRefusal};
+use job_parts::path::{Path, PathError};
+use ps_tokens::faults::{JobError, JobFault};
 use ps_tokens::object::Object;
-use job_parts::path::{Path, PathRefusal};
 
 /// A path statement with two numbers (PLRM3, section 4.4).
 #[derive(Clone, Copy, Debug, Drop, PartialEq, Eq)]
@@ -28,7 +28,7 @@ pub fn new_path(
     place: u32,
     at: u32,
     state: &mut State,
-) -> Result<(), JobRefusal>
+) -> Result<(), JobError>
     ensures { Performs result state.new (state_after objects.now from place at NewPath state.old) }
 {
     if from != place {
@@ -47,7 +47,7 @@ pub fn close_path(
     place: u32,
     at: u32,
     state: &mut State,
-) -> Result<(), JobRefusal>
+) -> Result<(), JobError>
     ensures { Performs result state.new
         (state_after objects.now from place at ClosePath state.old) }
 {
@@ -69,7 +69,7 @@ pub fn draw(
     at: u32,
     stroke: Stroke,
     state: &mut State,
-) -> Result<(), JobRefusal>
+) -> Result<(), JobError>
     requires { from < 2 ^ 31 }
     ensures { let numbers = two_numbers objects.now from place in
         let old = state.old in
@@ -81,12 +81,12 @@ pub fn draw(
     };
     match stroke_on(stroke, x, y, &mut state.path) {
         Ok(()) => Ok(()),
-        Err(refusal) => Err(refusal_at(refusal, at)),
+        Err(common_error) => Err(error_at(common_error, at)),
     }
 }
 
 // Draws a stroke on a path.
-fn stroke_on(stroke: Stroke, x: i64, y: i64, path: &mut Path) -> Result<(), PathRefusal>
+fn stroke_on(stroke: Stroke, x: i64, y: i64, path: &mut Path) -> Result<(), PathError>
     ensures { Draws result path.old path.new (stroke_on stroke x y path.old) }
 {
     match stroke {
@@ -97,12 +97,12 @@ fn stroke_on(stroke: Stroke, x: i64, y: i64, path: &mut Path) -> Result<(), Path
     }
 }
 
-// A path's refusal at its operator.
-fn refusal_at(refusal: PathRefusal, at: u32) -> JobRefusal
-    ensures { result ≡ refusal_at refusal at }
+// A path's error at its operator.
+fn error_at(common_error: PathError, at: u32) -> JobError
+    ensures { result ≡ error_at common_error at }
 {
-    match refusal {
-        PathRefusal::Fault(kind) => JobRefusal::Fault(JobFault { kind, at }),
-        PathRefusal::OutOfMemory => JobRefusal::OutOfMemory,
+    match common_error {
+        PathError::Fault(kind) => JobError::Fault(JobFault { kind, at }),
+        PathError::OutOfMemory => JobError::OutOfMemory,
     }
 }

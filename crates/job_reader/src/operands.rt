@@ -2,7 +2,7 @@ ghost use Rattle.std.specs.Prelude.{◌≡◌, ◌<◌, ◌^◌, Some};
 ghost use Rattle.job_reader.specs.Operands.{is_one_dict, is_dict_between, two_numbers, number_at};
 ghost use Rattle.job_reader.specs.Performing.{wrong_operands};
 
-use ps_tokens::faults::{FaultKind, JobFault, JobRefusal};
+use ps_tokens::faults::{FaultKind, JobError, JobFault};
 use ps_tokens::object::{Body, Object};
 
 /// Whether the operands, the objects from `from` up to `place`, are exactly one dictionary.
@@ -54,11 +54,11 @@ pub fn number_at(objects: &[Object], place: usize) -> Option<i64>
     }
 }
 
-/// The refusal `WrongOperands`, at the offset `at` of the operator.
-pub fn wrong_operands(at: u32) -> JobRefusal
+/// The error `WrongOperands`, at the offset `at` of the operator.
+pub fn wrong_operands(at: u32) -> JobError
     ensures { result ≡ wrong_operands at }
 {
-    JobRefusal::Fault(JobFault {
+    JobError::Fault(JobFault {
         kind: FaultKind::WrongOperands,
         at,
     })

@@ -5,12 +5,12 @@ ghost use Rattle.job_reader.specs.Performing.{Performs, MayReplace};
 ghost use Rattle.job_reader.specs.Statements.{both_set, params_set};
 
 use crate::state::State;
+use job_parts::{apply, zone_limits};
 use page_model::parts::{LimitList, TrapParams};
-use ps_tokens::faults::{JobFault, JobRefusal};
+use ps_tokens::faults::{JobError, JobFault};
 use ps_tokens::last;
 use ps_tokens::object::ObjectList;
 use std::alloc::Global;
-use job_parts::{apply, zone_limits};
 
 /// Applies the dictionary of `settrapparams` that stands at `dict`: sets the trapping parameters that it names, and the
 /// step limits where it names ColorantZoneDetails (after PLRM3, sections 6.3 and 8.2, in this project's profile).
@@ -21,19 +21,19 @@ pub fn set_trap_params(
     objects: &ObjectList,
     dict: u32,
     state: &mut State,
-) -> Result<(), JobRefusal>
+) -> Result<(), JobError>
     requires { AreObjects objects.now }
     ensures { Performs result state.new (params_set objects.now dict state.old) }
 {
     let params = apply(&state.params, objects, dict);
     match limits_in(alloc, &state.limits, objects, dict) {
         Ok(limits) => set_params(params, limits, state),
-        Err(refusal) => match refusal {
-            JobRefusal::Fault(second) => Err(JobRefusal::Fault(match params {
+        Err(common_error) => match common_error {
+            JobError::Fault(second) => Err(JobError::Fault(match params {
                 Ok(_) => second,
                 Err(first) => { if second.at < first.at { second } else { first } }
             })),
-            JobRefusal::OutOfMemory => Err(JobRefusal::OutOfMemory),
+            JobError::OutOfMemory => Err(JobError::OutOfMemory),
         },
     }
 }
@@ -44,14 +44,14 @@ fn limits_in(
     now: &LimitList,
     objects: &ObjectList,
     dict: u32,
-) -> Result<Option<LimitList>, JobRefusal>
+) -> Result<Option<LimitList>, JobError>
     requires { AreObjects objects.now }
     ensures { MayReplace result now.now (limits_after now.now objects.now dict) }
 {
     match last(objects, dict, b"ColorantZoneDetails") {
         Some(_) => match zone_limits(alloc, now, objects, dict) {
             Ok(limits) => Ok(Some(limits)),
-            Err(refusal) => Err(refusal),
+            Err(common_error) => Err(common_error),
         },
         None => Ok(None),
     }
@@ -62,7 +62,7 @@ fn set_params(
     params: Result<TrapParams, JobFault>,
     limits: Option<LimitList>,
     state: &mut State,
-) -> Result<(), JobRefusal>
+) -> Result<(), JobError>
     ensures some { IfSome limits
         (λ ls. Performs result state.new (both_set params (Ok ls) state.old)) }
     ensures none { IfNone limits
@@ -76,6 +76,6 @@ fn set_params(
             }
             Ok(())
         }
-        Err(fault) => Err(JobRefusal::Fault(fault)),
+        Err(fault) => Err(JobError::Fault(fault)),
     }
 }

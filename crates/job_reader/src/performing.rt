@@ -10,7 +10,7 @@ use crate::operators::Operator;
 use crate::parameters::set_trap_params;
 use crate::state::State;
 use crate::zones::make_zone;
-use ps_tokens::faults::JobRefusal;
+use ps_tokens::faults::JobError;
 use ps_tokens::object::ObjectList;
 use std::alloc::Global;
 
@@ -27,7 +27,7 @@ pub fn perform(
     at: u32,
     operator: Operator,
     state: &mut State,
-) -> Result<(), JobRefusal>
+) -> Result<(), JobError>
     requires are { AreObjects objects.now }
     requires small { from < 2 ^ 31 }
     ensures { Performs result state.new (state_after objects.now from place at operator state.old) }

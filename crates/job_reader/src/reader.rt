@@ -12,7 +12,7 @@ use crate::performing::perform;
 use crate::showing::show;
 use crate::state::nothing_read;
 use ps_tokens::dictionary::count;
-use ps_tokens::faults::{FaultKind, JobFault, JobRefusal};
+use ps_tokens::faults::{FaultKind, JobError, JobFault};
 use ps_tokens::object::ObjectList;
 use ps_tokens::token::TokenList;
 use ps_tokens::{LONGEST_JOB, objects, tokens};
@@ -23,12 +23,12 @@ use std::alloc::Global;
 /// The fault is the first of the bytes' tokens, then of the objects, then of the statements. A job of more than
 /// `LONGEST_JOB` bytes is `JobTooLong`, before all of these.
 #[tactic(auto, unfolding(crate::specs::Jobs::job_of))]
-pub fn read_job(alloc: Global, bytes: &[u8]) -> Result<Job, JobRefusal>
+pub fn read_job(alloc: Global, bytes: &[u8]) -> Result<Job, JobError>
     ensures given { Gives result (job_of bytes.now) }
     ensures in_range { IfOk result (λ job. IsJob job) }
 {
     if bytes.len() > LONGEST_JOB {
-        Err(JobRefusal::Fault(JobFault {
+        Err(JobError::Fault(JobFault {
             kind: FaultKind::JobTooLong,
             at: LONGEST_JOB as u32,
         }))
@@ -38,36 +38,36 @@ pub fn read_job(alloc: Global, bytes: &[u8]) -> Result<Job, JobRefusal>
 }
 
 // The job of bytes that are not too many.
-fn read_tokens(alloc: Global, bytes: &[u8]) -> Result<Job, JobRefusal>
+fn read_tokens(alloc: Global, bytes: &[u8]) -> Result<Job, JobError>
     requires { length bytes.now ≤ longest_job }
     ensures { Gives result (job_of_tokens bytes.now (tokens_of bytes.now)) }
 {
     match tokens(alloc, bytes) {
         Ok(found) => read_objects(alloc, bytes, &found),
-        Err(refusal) => match refusal {
-            JobRefusal::Fault(fault) => Err(JobRefusal::Fault(fault)),
-            JobRefusal::OutOfMemory => Err(JobRefusal::OutOfMemory),
+        Err(common_error) => match common_error {
+            JobError::Fault(fault) => Err(JobError::Fault(fault)),
+            JobError::OutOfMemory => Err(JobError::OutOfMemory),
         },
     }
 }
 
 // The job of its tokens.
-fn read_objects(alloc: Global, bytes: &[u8], tokens: &TokenList) -> Result<Job, JobRefusal>
+fn read_objects(alloc: Global, bytes: &[u8], tokens: &TokenList) -> Result<Job, JobError>
     requires size { length bytes.now ≤ longest_job }
     requires of_bytes { tokens_of bytes.now ≡ Ok tokens.now }
     ensures { Gives result (job_of_objects (length bytes.now) (objects_of bytes.now tokens.now)) }
 {
     match objects(alloc, bytes, tokens) {
         Ok(found) => read_statements(alloc, &found, bytes.len() as u32),
-        Err(refusal) => match refusal {
-            JobRefusal::Fault(fault) => Err(JobRefusal::Fault(fault)),
-            JobRefusal::OutOfMemory => Err(JobRefusal::OutOfMemory),
+        Err(common_error) => match common_error {
+            JobError::Fault(fault) => Err(JobError::Fault(fault)),
+            JobError::OutOfMemory => Err(JobError::OutOfMemory),
         },
     }
 }
 
 // The job of its objects, statement after statement.
-fn read_statements(alloc: Global, objects: &ObjectList, len: u32) -> Result<Job, JobRefusal>
+fn read_statements(alloc: Global, objects: &ObjectList, len: u32) -> Result<Job, JobError>
     requires { AreObjects objects.now }
     ensures { Gives result (job_of_objects len (Ok objects.now)) }
 {
@@ -84,11 +84,11 @@ fn read_statements(alloc: Global, objects: &ObjectList, len: u32) -> Result<Job,
                         }
                         match perform(alloc, objects, from, place, call.at, operator, &mut state) {
                             Ok(()) => {}
-                            Err(refusal) => return Err(refusal),
+                            Err(common_error) => return Err(common_error),
                         }
                     }
                     None => {
-                        return Err(JobRefusal::Fault(JobFault {
+                        return Err(JobError::Fault(JobFault {
                             kind: FaultKind::UnknownOperator,
                             at: call.at,
                         }));
@@ -99,7 +99,7 @@ fn read_statements(alloc: Global, objects: &ObjectList, len: u32) -> Result<Job,
             None => {}
         }
     }
-    Err(JobRefusal::Fault(JobFault {
+    Err(JobError::Fault(JobFault {
         kind: FaultKind::NoShowpage,
         at: len,
     }))

@@ -6,7 +6,7 @@ use crate::job::Job;
 use crate::state::State;
 use lists::list::List;
 use page_model::parts::{OutOfMemory, Zone, ZoneList};
-use ps_tokens::faults::{FaultKind, JobFault, JobRefusal};
+use ps_tokens::faults::{FaultKind, JobError, JobFault};
 use ps_tokens::object::Object;
 use std::alloc::Global;
 
@@ -22,14 +22,14 @@ pub fn show(
     place: u32,
     at: u32,
     state: State,
-) -> Result<Job, JobRefusal>
+) -> Result<Job, JobError>
     ensures { Gives result (job_shown objects.now from place at state) }
 {
     match shown_fault(objects, from, place, at, &state) {
-        Some(fault) => Err(JobRefusal::Fault(fault)),
+        Some(fault) => Err(JobError::Fault(fault)),
         None => match job_at(alloc, state) {
             Ok(job) => Ok(job),
-            Err(OutOfMemory) => Err(JobRefusal::OutOfMemory),
+            Err(OutOfMemory) => Err(JobError::OutOfMemory),
         },
     }
 }

@@ -1,10 +1,10 @@
 ghost use Rattle.std.specs.Prelude.{◌≡◌};
 ghost use Rattle.job_reader.specs.Starts.{nothing_read};
 
+use job_parts::path::Path;
 use lists::list::List;
 use page_model::parts::{DetailList, LimitList, TrapParams, ZoneList};
 use std::alloc::Global;
-use job_parts::path::Path;
 
 /// What is in force at a statement, the zones that were made so far, and how many vertices these have in all.
 #[derive(Drop)]

@@ -5,7 +5,7 @@ use crate::reading::read;
 use job_parts::inks;
 use page_model::parts::{DetailList, Ink};
 use ps_tokens::LONGEST_JOB;
-use ps_tokens::faults::{JobFault, JobRefusal};
+use ps_tokens::faults::{JobError, JobFault};
 use std::alloc::{AllocError, Global};
 use std::process::Abort;
 use std::test::Fail;
@@ -36,8 +36,8 @@ fn details_text(alloc: Global, bytes: &[u8]) -> Result<String, AllocError>
     };
     match inks(alloc, &all, 0) {
         Ok(found) => inks_text(alloc, &found),
-        Err(JobRefusal::Fault(JobFault { kind, at })) => format!(in alloc; "{kind:?} at {at}"),
-        Err(JobRefusal::OutOfMemory) => String::from_str(alloc, "out of memory"),
+        Err(JobError::Fault(JobFault { kind, at })) => format!(in alloc; "{kind:?} at {at}"),
+        Err(JobError::OutOfMemory) => String::from_str(alloc, "out of memory"),
     }
 }
 

@@ -1,7 +1,7 @@
 use job_reader::job::Job;
 use job_reader::reader::read_job;
 use page_model::parts::Zone;
-use ps_tokens::faults::{JobFault, JobRefusal};
+use ps_tokens::faults::{JobError, JobFault};
 use std::alloc::{AllocError, Global};
 use std::process::Abort;
 use std::test::Fail;
@@ -36,8 +36,8 @@ fn job_text(alloc: Global, job: &Job) -> Result<String, AllocError> {
 fn text_of_job(alloc: Global, bytes: &[u8]) -> Result<String, AllocError> {
     match read_job(alloc, bytes) {
         Ok(job) => job_text(alloc, &job),
-        Err(JobRefusal::Fault(JobFault { kind, at })) => format!(in alloc; "{kind:?} at {at}"),
-        Err(JobRefusal::OutOfMemory) => String::from_str(alloc, "out of memory"),
+        Err(JobError::Fault(JobFault { kind, at })) => format!(in alloc; "{kind:?} at {at}"),
+        Err(JobError::OutOfMemory) => String::from_str(alloc, "out of memory"),
     }
 }
 

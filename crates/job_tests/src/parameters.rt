@@ -2,15 +2,15 @@ ghost use Rattle.std.specs.Prelude.{◌≤◌, length};
 ghost use Rattle.ps_tokens.specs.Limits.{longest_job};
 
 use crate::reading::read;
+use job_parts::{apply, zone_limits};
 use lists::list::List;
 use page_model::parts::{LimitList, TrapParams, USUAL_PARAMS};
 use ps_tokens::LONGEST_JOB;
-use ps_tokens::faults::{FaultKind, JobFault, JobRefusal};
+use ps_tokens::faults::{FaultKind, JobError, JobFault};
 use ps_tokens::parameters::Key;
 use std::alloc::{AllocError, Global};
 use std::process::Abort;
 use std::test::Fail;
-use job_parts::{apply, zone_limits};
 
 // A dictionary, and the parameters after it.
 static SETTINGS: [(&[u8], TrapParams); 18] = [
@@ -330,10 +330,10 @@ fn apply_limits(alloc: Global, now: &LimitList, bytes: &[u8]) -> Result<String, 
     };
     match zone_limits(alloc, now, &all, 0) {
         Ok(limits) => Ok(limits_text(alloc, &limits)?),
-        Err(JobRefusal::Fault(JobFault { kind, at })) => {
+        Err(JobError::Fault(JobFault { kind, at })) => {
             Ok(format!(in alloc; "{kind:?} at {at}")?)
         }
-        Err(JobRefusal::OutOfMemory) => Ok(String::from_str(alloc, "out of memory")?),
+        Err(JobError::OutOfMemory) => Ok(String::from_str(alloc, "out of memory")?),
     }
 }
 

@@ -1,8 +1,8 @@
+use job_parts::path::{Path, PathError};
 use page_model::parts::VertexList;
 use std::alloc::{AllocError, Global};
 use std::process::Abort;
 use std::test::Fail;
-use job_parts::path::{Path, PathRefusal};
 
 #[derive(Clone, Copy, Drop)]
 enum Step {
@@ -14,7 +14,7 @@ enum Step {
     Clear,
 }
 
-fn draw(path: &mut Path, step: Step, x: i64, y: i64) -> Result<(), PathRefusal> {
+fn draw(path: &mut Path, step: Step, x: i64, y: i64) -> Result<(), PathError> {
     match step {
         Step::Move => path.moveto(x, y),
         Step::RelativeMove => path.rmoveto(x, y),
@@ -43,7 +43,7 @@ fn vertices_text(alloc: Global, vertices: &VertexList) -> Result<String, AllocEr
     Ok(text)
 }
 
-// Statements, and the vertices that they draw, those that begin a subpath with a mark; a refusal stands before them.
+// Statements, and the vertices that they draw, those that begin a subpath with a mark; a error stands before them.
 static SCRIPTS: [(&[(Step, i64, i64)], &str); 18] = [
     (&[], ""),
     (
@@ -162,10 +162,10 @@ static SCRIPTS: [(&[(Step, i64, i64)], &str); 18] = [
     ),
 ];
 
-fn refusal_text(alloc: Global, refusal: PathRefusal) -> Result<String, AllocError> {
-    match refusal {
-        PathRefusal::Fault(kind) => format!(in alloc; "{kind:?} "),
-        PathRefusal::OutOfMemory => String::from_str(alloc, "out of memory "),
+fn error_text(alloc: Global, error: PathError) -> Result<String, AllocError> {
+    match error {
+        PathError::Fault(kind) => format!(in alloc; "{kind:?} "),
+        PathError::OutOfMemory => String::from_str(alloc, "out of memory "),
     }
 }
 
@@ -179,9 +179,9 @@ fn draw_script(
     for (step, x, y) in script {
         match draw(&mut path, *step, *x, *y) {
             Ok(()) => {}
-            Err(refusal) => {
-                let told = refusal_text(alloc, refusal)?;
-                text.push_str(told.as_str())?;
+            Err(error) => {
+                let reported = error_text(alloc, error)?;
+                text.push_str(reported.as_str())?;
             }
         }
     }
@@ -204,7 +204,7 @@ fn expect_scripts(
 }
 
 // How many vertices a path has when a line is first refused, and why.
-fn fill_path(rt: &impl Abort, alloc: Global, first: Step) -> (usize, Result<(), PathRefusal>) {
+fn fill_path(rt: &impl Abort, alloc: Global, first: Step) -> (usize, Result<(), PathError>) {
     let mut path = Path::new(alloc);
     assert_eq!(rt; path.moveto(0, 0), Ok(()));
     for _ in 0..5000u32 {
@@ -220,7 +220,7 @@ fn fill_path(rt: &impl Abort, alloc: Global, first: Step) -> (usize, Result<(), 
 #[test]
 fn draws_paths(rt: HostRuntime) -> Result<(), Fail> {
     expect_scripts(&rt, rt.alloc(), &SCRIPTS)?;
-    let full = Err(PathRefusal::Fault(ps_tokens::faults::FaultKind::TooManyVertices));
+    let full = Err(PathError::Fault(ps_tokens::faults::FaultKind::TooManyVertices));
     assert_eq!(rt; fill_path(&rt, rt.alloc(), Step::Move), (4096, full));
     assert_eq!(rt; fill_path(&rt, rt.alloc(), Step::Line), (4095, full));
     Ok(())

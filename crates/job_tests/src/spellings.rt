@@ -4,7 +4,7 @@ ghost use Rattle.ps_tokens.specs.Limits.{longest_job};
 use crate::reading::read;
 use lists::names::OutOfMemory;
 use ps_tokens::dictionary::keys;
-use ps_tokens::faults::{JobFault, JobRefusal};
+use ps_tokens::faults::{JobError, JobFault};
 use ps_tokens::names::last_keys;
 use ps_tokens::object::{Body, Object};
 use ps_tokens::token::TokenList;
@@ -13,10 +13,10 @@ use std::alloc::{AllocError, Global};
 use std::process::Abort;
 use std::test::Fail;
 
-fn fault_text(alloc: Global, refusal: JobRefusal) -> Result<String, AllocError> {
-    match refusal {
-        JobRefusal::Fault(JobFault { kind, at }) => format!(in alloc; "{kind:?} at {at}"),
-        JobRefusal::OutOfMemory => String::from_str(alloc, "out of memory"),
+fn fault_text(alloc: Global, error: JobError) -> Result<String, AllocError> {
+    match error {
+        JobError::Fault(JobFault { kind, at }) => format!(in alloc; "{kind:?} at {at}"),
+        JobError::OutOfMemory => String::from_str(alloc, "out of memory"),
     }
 }
 
@@ -37,7 +37,7 @@ fn tokens_text(alloc: Global, bytes: &[u8]) -> Result<String, AllocError>
 {
     match tokens(alloc, bytes) {
         Ok(found) => token_text(alloc, &found),
-        Err(refusal) => fault_text(alloc, refusal),
+        Err(error) => fault_text(alloc, error),
     }
 }
 
@@ -73,7 +73,7 @@ fn objects_text(alloc: Global, bytes: &[u8]) -> Result<String, AllocError>
             }
             Ok(text)
         }
-        Err(refusal) => fault_text(alloc, refusal),
+        Err(error) => fault_text(alloc, error),
     }
 }
 

@@ -13,7 +13,7 @@ use Rattle.keepaway.specs.Keepaway.{covered, kept, kept_tints}
 use Rattle.keepaway.specs.Rows.{AreMarks, HasKept, HasRows, mark}
 use Rattle.keepaway.proofs.KeepLemmas.{mark_free}
 use Rattle.keep_pages.specs.KeptPages.{changed_count, covered_count, kept_plane, kept_planes, plate_line, plate_lines, report_text}
-use Rattle.refusals.specs.Lines.{line}
+use Rattle.common_errors.specs.Lines.{line}
 use Rattle.std.specs.Fmt.{decimal}
 use Rattle.std.specs.Prelude.{codes}
 use Rattle.trap_report.specs.Report.{head_line}

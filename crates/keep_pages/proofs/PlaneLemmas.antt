@@ -10,7 +10,7 @@ use Rattle.page_model.specs.Page.{InPage, plates, width, height, maxval, samples
 use Rattle.lists.proofs.ListBelow.{length-list_below, all_below}
 use Rattle.page_model.specs.Limits.{most_samples}
 use Rattle.page_model.proofs.PageLemmas.{plane_of, tint_at_most}
-use Rattle.draw_back.proofs.DrawnLemmas.{drawn_is, drawn_only, drawn_held}
+use Rattle.draw_back.proofs.DrawnLemmas.{drawn_is, drawn_only, drawn_stored}
 use Rattle.draw_back.specs.Laws.{DrawnLaw}
 use Rattle.keepaway.specs.declared.parts.RichBlack.{RichBlack}
 use Rattle.keepaway.specs.Keepaway.{kept, kept_tints, scene}
@@ -24,7 +24,7 @@ locality page rich c p =
     let law : DrawnLaw (scene page rich c) p.x p.y = record {
       is = drawn_is (scene page rich c) p.x p.y;
       only = λ v is. drawn_only (scene page rich c) p.x p.y v is;
-      held = drawn_held (scene page rich c) p.x p.y;
+      stored = drawn_stored (scene page rich c) p.x p.y;
       less = (drawn_is (scene page rich c) p.x p.y).own;
     } in
     local page rich c p law

@@ -6,7 +6,7 @@ use Rattle.page_model.specs.declared.parts.At.{At}
 use Rattle.page_model.specs.declared.parts.PageParts.{PageParts}
 use Rattle.page_model.specs.declared.parts.Plane.{Plane}
 use Rattle.page_model.specs.Page.{height, ink_at, maxval, plates, sample_at, samples, tint, width}
-use Rattle.refusals.specs.Lines.{line}
+use Rattle.common_errors.specs.Lines.{line}
 use Rattle.trap_report.specs.Report.{head_line}
 use Rattle.keepaway.specs.declared.parts.RichBlack.{RichBlack}
 use Rattle.keepaway.specs.Keepaway.{covered, kept, kept_tints}

@@ -2,7 +2,7 @@
 
 ghost use Rattle.std.specs.Prelude.{◌≡◌, ◌<◌, ◌++◌, ℕ, IfOk, OnOk, codes, length, slice_index};
 ghost use Rattle.std.specs.Fmt.{decimal};
-ghost use Rattle.refusals.specs.Lines.{line};
+ghost use Rattle.common_errors.specs.Lines.{line};
 ghost use Rattle.page_model.specs.Page.{height, maxval, plates, width};
 ghost use Rattle.trap_report.specs.Report.{head_line};
 ghost use Rattle.keep_pages.specs.KeptPages.{changed_count, covered_count, keep_report, plate_line, plate_lines, report_text};

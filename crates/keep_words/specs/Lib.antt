@@ -1,3 +1,3 @@
 pub mod Numbers
 pub mod Words
-pub mod Held
+pub mod Stored

@@ -3,7 +3,7 @@ ghost use Rattle.std.specs.Option.{ForSome};
 ghost use Rattle.std.specs.Str.{bytes_eq};
 ghost use Rattle.plain_words.specs.Parts.{parts_of};
 ghost use Rattle.page_model.specs.Limits.{most_trap_width, scale};
-ghost use Rattle.keep_words.specs.Held.{IsWithin, keep_in};
+ghost use Rattle.keep_words.specs.Stored.{IsWithin, keep_in};
 ghost use Rattle.keep_words.specs.Words.{keep_of, keep_with as keep_spec, limit_in as limit_spec, options_of, reads_written as reads_spec, values_after, width_in as width_spec};
 
 use crate::numbers::read_points;

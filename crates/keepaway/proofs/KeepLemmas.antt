@@ -99,7 +99,7 @@ local page rich c p law =
     let off : (covered page rich.limit p && is_open page p) ≡ false → kept page rich c p ≡ old = λ e. off_by (is_drawn page rich.spared c) (covered page rich.limit p) (is_open page p) (not (is_black_ink page (zone_of page p) c)) new old e in
     record {
       less = less_by may new old law.less;
-      held = by_case may;
+      stored = by_case may;
       covered = λ e. off (and_left (covered page rich.limit p) (is_open page p) e);
       shut = λ e. off (and_right (covered page rich.limit p) (is_open page p) e);
     }
@@ -111,7 +111,7 @@ local page rich c p law =
 
     by_case : (b : Bool) → ((if b then drawn (scene page rich c) p.x p.y else tint page c p) ≡ tint page c p) ⊎ ((edge : NearEdge page rich p) × ((if b then drawn (scene page rich c) p.x p.y else tint page c p) ≡ tint page c (record { x = edge.x; y = edge.y })))
     by_case false = inl refl
-    by_case true = elim law.held [ inl e ↦ inl e | inr h ↦ inr (edge_of h.0, h.1) ]
+    by_case true = elim law.stored [ inl e ↦ inl e | inr h ↦ inr (edge_of h.0, h.1) ]
 
 -- a row of the lists, drawn back, is that of the page
 pub row_kept : (page : PageParts) (rich : RichBlack) (c x y : ℕ) (lists : Lists) (limit radius : ℕ) → ((window sheet : Scene) (first radius : ℕ) → IsWindow window sheet first → window.limit < square (radius + 1) → WindowLaw window sheet first radius) → limit < square (radius + 1) → limit ≡ near_limit rich.width page.resolution → lists.wide ≡ width page → lists.tall ≡ height page → ((j k : ℕ) → j < width page → k < height page → entry lists.marks lists.wide j k ≡ mark page rich.limit (record { x = j; y = k })) → ((j k : ℕ) → j < width page → k < height page → entry lists.tints lists.wide j k ≡ tint page c (record { x = j; y = k })) → is_drawn page rich.spared c ≡ true → x < width page → y < height page → (if is_black_ink page (zone_of page (record { x = x; y = y })) c then tint page c (record { x = x; y = y }) else kept_by_lists lists limit x y) ≡ kept page rich c (record { x = x; y = y })

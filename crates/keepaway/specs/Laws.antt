@@ -20,7 +20,7 @@ pub record NearEdge (page : PageParts) (rich : RichBlack) (p : At) : Type 0 wher
 -- near by that is not covered
 pub record Locality (page : PageParts) (rich : RichBlack) (c : ℕ) (p : At) : Type 0 where
   pub less : kept page rich c p ≤ tint page c p
-  pub held : (kept page rich c p ≡ tint page c p)
+  pub stored : (kept page rich c p ≡ tint page c p)
       ⊎ ((edge : NearEdge page rich p)
       × (kept page rich c p ≡ tint page c (record { x = edge.x; y = edge.y })))
   pub covered : covered page rich.limit p ≡ false → kept page rich c p ≡ tint page c p

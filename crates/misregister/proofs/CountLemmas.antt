@@ -8,13 +8,13 @@ use Rattle.std.proofs.lemmas.List.Sums.{count_by_more_yes, count_by_more_no}
 use Rattle.page_model.specs.declared.parts.Plane.{Plane}
 use Rattle.lists.specs.Words.{any_below, count_below}
 use Rattle.page_model.specs.Shapes.{wide, tall}
-use Rattle.misregister.specs.Risk.{all_below, is_bare, can_bare, is_at_risk, risk}
+use Rattle.misregister.specs.Risk.{all_below, is_outline, can_outline, is_at_risk, risk}
 use Rattle.misregister.specs.Sweep.{at, bit, shade, least_shade}
 
 abbrev grade : Bool → Bool → ℕ
 grade can inked = if can then (if inked then 1 else 2) else 0
 
-join : (can inked near bare : Bool) → min (grade can inked) (if near then 1 + bit bare else 0) ≡ grade (can && near) (inked || not bare)
+join : (can inked near outline : Bool) → min (grade can inked) (if near then 1 + bit outline else 0) ≡ grade (can && near) (inked || not outline)
 join true true true true = refl
 join true true true false = refl
 join true true false true = refl
@@ -32,9 +32,9 @@ join false false true false = refl
 join false false false true = refl
 join false false false false = refl
 
-least_is : (planes : List Plane) (r x y n : ℕ) → least_shade planes r x y n ≡ grade (all_below (λ c. can_bare planes r c x y) n) (any_below (λ c. not (is_bare planes c x y)) n)
+least_is : (planes : List Plane) (r x y n : ℕ) → least_shade planes r x y n ≡ grade (all_below (λ c. can_outline planes r c x y) n) (any_below (λ c. not (is_outline planes c x y)) n)
 least_is planes r x y zero = refl
-least_is planes r x y (suc n) = ap (λ (v : ℕ). min v (shade planes r n x y)) (least_is planes r x y n) ∙ join _ _ (can_bare planes r n x y) (is_bare planes n x y)
+least_is planes r x y (suc n) = ap (λ (v : ℕ). min v (shade planes r n x y)) (least_is planes r x y n) ∙ join _ _ (can_outline planes r n x y) (is_outline planes n x y)
 
 grade_one : (can inked : Bool) → nat_eq (grade can inked) 1 ≡ (inked && can)
 grade_one true true = refl

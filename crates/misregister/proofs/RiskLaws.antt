@@ -5,7 +5,7 @@ use Rattle.page_model.specs.declared.parts.Plane.{Plane}
 use Rattle.lists.specs.Words.{any_below, count_below}
 use Rattle.lists.proofs.Sums.{any_below-at}
 use Rattle.page_model.specs.Shapes.{wide, tall}
-use Rattle.misregister.specs.Risk.{all_below, is_bare, is_near, bares_in_row, can_bare, is_inked, is_at_risk, risk}
+use Rattle.misregister.specs.Risk.{all_below, is_outline, is_near, bares_in_row, can_outline, is_inked, is_at_risk, risk}
 
 -- a place that passes is found
 pub any_below-from : (test : ℕ → Bool) (n c : ℕ) → c < n → test c ≡ true → any_below test n ≡ true
@@ -52,9 +52,9 @@ and_more : (a b c d : Bool) → (a ≡ true → c ≡ true) → (b ≡ true → 
 and_more a b c d f g h = let parts = and_parts a b h in and_from c d (f parts.0) (g parts.1)
 
 row_more : (planes : List Plane) (r c x k : ℕ) → bares_in_row planes r c x k ≡ true → bares_in_row planes (r + 1) c x k ≡ true
-row_more planes r c x k = any_below-more (λ j. is_near r x j && is_bare planes c j k) (λ j. is_near (r + 1) x j && is_bare planes c j k) (wide planes) (λ j l. and_more _ _ _ _ (near_more r x j) (λ h. h))
+row_more planes r c x k = any_below-more (λ j. is_near r x j && is_outline planes c j k) (λ j. is_near (r + 1) x j && is_outline planes c j k) (wide planes) (λ j l. and_more _ _ _ _ (near_more r x j) (λ h. h))
 
-bares_more : (planes : List Plane) (r c x y : ℕ) → can_bare planes r c x y ≡ true → can_bare planes (r + 1) c x y ≡ true
+bares_more : (planes : List Plane) (r c x y : ℕ) → can_outline planes r c x y ≡ true → can_outline planes (r + 1) c x y ≡ true
 bares_more planes r c x y = any_below-more (λ k. is_near r y k && bares_in_row planes r c x k) (λ k. is_near (r + 1) y k && bares_in_row planes (r + 1) c x k) (tall planes) (λ k l. and_more _ _ _ _ (near_more r y k) (row_more planes r c x k))
 
 at_risk_more : (planes : List Plane) (r x y : ℕ) → is_at_risk planes r x y ≡ true → is_at_risk planes (r + 1) x y ≡ true
@@ -67,22 +67,22 @@ risk_grows planes r = count_below-more _ _ (wide planes * tall planes) (λ k l. 
 same_place : (a b : ℕ) → is_near 0 a b ≡ true → a ≡ b
 same_place a b h = omega (arith, leb-true _ _ h)
 
-bare_at_rest : (planes : List Plane) (c x y : ℕ) → can_bare planes 0 c x y ≡ true → is_bare planes c x y ≡ true
-bare_at_rest planes c x y h =
+outline_at_rest : (planes : List Plane) (c x y : ℕ) → can_outline planes 0 c x y ≡ true → is_outline planes c x y ≡ true
+outline_at_rest planes c x y h =
     let row = any_below-at _ (tall planes) h in
     let parts = and_parts _ _ row.2 in
     let column = any_below-at _ (wide planes) parts.1 in
     let inner = and_parts _ _ column.2 in
     stands column.0 row.0 (same_place x column.0 inner.0) (same_place y row.0 parts.0) inner.1 where
-      stands : (j k : ℕ) → x ≡ j → y ≡ k → is_bare planes c j k ≡ true → is_bare planes c x y ≡ true
-      stands j k across down bare = rw (across, down) bare
+      stands : (j k : ℕ) → x ≡ j → y ≡ k → is_outline planes c j k ≡ true → is_outline planes c x y ≡ true
+      stands j k across down outline = rw (across, down) outline
 
 none_at_rest : (planes : List Plane) (x y : ℕ) → is_at_risk planes 0 x y ≡ true → ⊥
 none_at_rest planes x y h =
-    let parts = and_parts (is_inked planes x y) (all_below (λ c. can_bare planes 0 c x y) (length planes)) h in
+    let parts = and_parts (is_inked planes x y) (all_below (λ c. can_outline planes 0 c x y) (length planes)) h in
     let inked = any_below-at _ (length planes) parts.0 in
-    let bare = bare_at_rest planes inked.0 x y (all_below-at _ (length planes) inked.0 parts.1 inked.1) in
-    let clash : false ≡ true = sym (not-true _ inked.2) ∙ bare in
+    let outline = outline_at_rest planes inked.0 x y (all_below-at _ (length planes) inked.0 parts.1 inked.1) in
+    let clash : false ≡ true = sym (not-true _ inked.2) ∙ outline in
     false≢true clash
 
 pub risk_at_rest : (planes : List Plane) → risk planes 0 ≡ 0

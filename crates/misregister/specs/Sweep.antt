@@ -3,8 +3,8 @@ use Rattle.std.specs.Prelude.{◌≡◌, ℕ, zero, suc, ◌+◌, ◌*◌, Bool,
 use Rattle.std.specs.Prelude.{vec_capacity, vec_len, List, slice_index, if◌then◌else◌}
 use Rattle.page_model.specs.declared.parts.Plane.{Plane}
 use Rattle.page_model.specs.Shapes.{wide, tall}
-use Rattle.misregister.specs.declared.room.Room.{Room}
-use Rattle.misregister.specs.Risk.{is_bare, bares_in_row, can_bare}
+use Rattle.misregister.specs.declared.workspace.Workspace.{Workspace}
+use Rattle.misregister.specs.Risk.{is_outline, bares_in_row, can_outline}
 
 -- of the places below n the last that passes bares all places up to the radius past it: the first
 -- place that none bares
@@ -18,7 +18,7 @@ bit b = if b then 1 else 0
 -- 2 where plate c has no ink on the sample, 1 where it has and can leave it bare, else 0
 abbrev pub shade : List Plane → ℕ → ℕ → ℕ → ℕ → ℕ
 shade planes radius c x y =
-    if can_bare planes radius c x y then 1 + bit (is_bare planes c x y) else 0
+    if can_outline planes radius c x y then 1 + bit (is_outline planes c x y) else 0
 
 -- the least shade of the first n plates, of at most 2
 abbrev pub least_shade : List Plane → ℕ → ℕ → ℕ → ℕ → ℕ
@@ -46,13 +46,13 @@ pub record IsRowPut (old new : List ℕ) (columns row : ℕ) (value : ℕ → �
   pub kept : (x y : ℕ) → x < columns → (y ≡ row → ⊥) → at new columns y x ≡ at old columns y x
 
 -- the buffers are as long as a row and as the page
-pub record HasRoom (planes : List Plane) (room : Room) : Type 0 where
-  pub row : vec_len room.row ≡ wide planes
-  pub until : vec_len room.until ≡ wide planes
-  pub shades : vec_len room.shades ≡ wide planes * tall planes
+pub record HasWorkspace (planes : List Plane) (workspace : Workspace) : Type 0 where
+  pub row : vec_len workspace.row ≡ wide planes
+  pub until : vec_len workspace.until ≡ wide planes
+  pub shades : vec_len workspace.shades ≡ wide planes * tall planes
 
 -- the buffers have the memory that they had: nothing was allocated
-pub record KeepsMemory (old new : Room) : Type 0 where
+pub record KeepsMemory (old new : Workspace) : Type 0 where
   pub row : vec_capacity new.row ≡ vec_capacity old.row
   pub until : vec_capacity new.until ≡ vec_capacity old.until
   pub shades : vec_capacity new.shades ≡ vec_capacity old.shades
@@ -62,13 +62,13 @@ pub record KeepsMemory (old new : Room) : Type 0 where
 abbrev pub stage : List Plane → ℕ → ℕ → ℕ → ℕ → ℕ → ℕ → ℕ → ℕ
 stage planes radius c entered left x y older =
     if nat_lt y left then min older (shade planes radius c x y) else
-    (if nat_lt y entered then min older (1 + bit (is_bare planes c x y)) else older)
+    (if nat_lt y entered then min older (1 + bit (is_outline planes c x y)) else older)
 
 -- plate c is under way, and the shades were `older` before it
-pub record IsUnderWay (planes : List Plane) (radius c : ℕ) (older : List ℕ) (room : Room)
+pub record IsUnderWay (planes : List Plane) (radius c : ℕ) (older : List ℕ) (workspace : Workspace)
     (entered left : ℕ) : Type 0 where
   pub until : (x : ℕ) → x < wide planes
-      → slice_index room.until.items x ≡ bared_until (bares_in_row planes radius c x) radius entered
+      → slice_index workspace.until.items x ≡ bared_until (bares_in_row planes radius c x) radius entered
   pub shades : (x y : ℕ) → x < wide planes → y < tall planes
-      → at room.shades.items (wide planes) y x
+      → at workspace.shades.items (wide planes) y x
       ≡ stage planes radius c entered left x y (at older (wide planes) y x)

@@ -4,8 +4,8 @@ ghost use Rattle.misregister.specs.Risk.{risk};
 ghost use Rattle.misregister.specs.Limits.{most_radius};
 
 use crate::plate::shade_plate;
-use crate::room::RiskBuf;
 use crate::sheet::Sheet;
+use crate::workspace::RiskBuf;
 use page_model::steps::Steps;
 use std::sync::ledger::Ledger;
 
@@ -50,10 +50,10 @@ pub fn risk_count<L: Ledger>(
     ensures buffer { buf.new ≡ buf.old }
 {
     let _size = (width, sheet.height());
-    let room = &mut buf.room;
-    whiten(room.shades.as_mut_slice());
+    let workspace = &mut buf.workspace;
+    whiten(workspace.shades.as_mut_slice());
     for c in 0..plates {
-        shade_plate(sheet, c, height, radius, room, steps);
+        shade_plate(sheet, c, height, radius, workspace, steps);
     }
-    at_risk(room.shades.as_slice())
+    at_risk(workspace.shades.as_slice())
 }

@@ -4,9 +4,9 @@
 mod count;
 pub mod laws;
 mod plate;
-mod room;
 mod row;
 pub mod sheet;
+mod workspace;
 
 pub use count::{MOST_RADIUS, risk_count};
-pub use room::RiskBuf;
+pub use workspace::RiskBuf;

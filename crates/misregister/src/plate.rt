@@ -2,12 +2,12 @@
 
 ghost use Rattle.std.specs.Prelude.{◌≡◌, ◌+◌, ◌-◌, ◌<◌, ◌≤◌, ◌*◌, ℕ, List, min, nat_lt, length, slice_index, if◌then◌else◌};
 ghost use Rattle.page_model.specs.Shapes.{wide, tall};
-ghost use Rattle.misregister.specs.Sweep.{HasRoom, IsRowPut, IsUnderWay, KeepsMemory, at, shade};
+ghost use Rattle.misregister.specs.Sweep.{HasWorkspace, IsRowPut, IsUnderWay, KeepsMemory, at, shade};
 ghost use Rattle.misregister.specs.Limits.{most_radius};
 
-use crate::room::Room;
 use crate::row::put_near;
 use crate::sheet::Sheet;
+use crate::workspace::Workspace;
 use page_model::steps::Steps;
 use std::sync::ledger::Ledger;
 
@@ -42,45 +42,45 @@ fn enter_row<L: Ledger>(
     c: u32,
     y: u32,
     radius: u32,
-    room: &mut Room,
+    workspace: &mut Workspace,
     steps: &mut Steps<L>,
 )
     requires plate { c < length sheet.now }
     requires row { y < tall sheet.now }
     requires radius { radius ≤ most_radius }
-    requires room { HasRoom sheet.now room.old }
-    ensures room { HasRoom sheet.now room.new }
-    ensures memory { KeepsMemory room.old room.new }
+    requires workspace { HasWorkspace sheet.now workspace.old }
+    ensures workspace { HasWorkspace sheet.now workspace.new }
+    ensures memory { KeepsMemory workspace.old workspace.new }
     ensures entered { (older : List ℕ) (left : ℕ) → left ≤ y
-        → IsUnderWay sheet.now radius c older room.old y left
-        → IsUnderWay sheet.now radius c older room.new (y + 1) left }
+        → IsUnderWay sheet.now radius c older workspace.old y left
+        → IsUnderWay sheet.now radius c older workspace.new (y + 1) left }
     ensures steps { steps.new ≡ steps.old + wide sheet.now }
 {
     let _height = sheet.height();
-    sheet.bare_row(c, y, room.row.as_mut_slice(), steps);
-    let row = room.row.as_slice();
-    darken_row(room.shades.as_mut_slice(), y as usize, row);
+    sheet.outline_row(c, y, workspace.row.as_mut_slice(), steps);
+    let row = workspace.row.as_slice();
+    darken_row(workspace.shades.as_mut_slice(), y as usize, row);
     put_near(
         row,
         radius as usize,
         y + radius + 1,
-        room.until.as_mut_slice(),
+        workspace.until.as_mut_slice(),
     );
 }
 
 /// Finishes row y, after all rows near it were read.
-fn leave_row(sheet: &Sheet, y: u32, room: &mut Room)
+fn leave_row(sheet: &Sheet, y: u32, workspace: &mut Workspace)
     requires row { y < tall sheet.now }
-    requires room { HasRoom sheet.now room.old }
-    ensures room { HasRoom sheet.now room.new }
-    ensures memory { KeepsMemory room.old room.new }
+    requires workspace { HasWorkspace sheet.now workspace.old }
+    ensures workspace { HasWorkspace sheet.now workspace.new }
+    ensures memory { KeepsMemory workspace.old workspace.new }
     ensures left { (radius c : ℕ) (older : List ℕ) (entered : ℕ) → entered
         ≡ min (y + radius + 1) (tall sheet.now)
-        → IsUnderWay sheet.now radius c older room.old entered y
-        → IsUnderWay sheet.now radius c older room.new entered (y + 1) }
+        → IsUnderWay sheet.now radius c older workspace.old entered y
+        → IsUnderWay sheet.now radius c older workspace.new entered (y + 1) }
 {
-    let until = room.until.as_slice();
-    close_row(room.shades.as_mut_slice(), y, until);
+    let until = workspace.until.as_slice();
+    close_row(workspace.shades.as_mut_slice(), y, until);
 }
 
 /// Reads the first rows of plate c.
@@ -89,21 +89,21 @@ fn enter_rows<L: Ledger>(
     c: u32,
     rows: u32,
     radius: u32,
-    room: &mut Room,
+    workspace: &mut Workspace,
     steps: &mut Steps<L>,
 )
     requires plate { c < length sheet.now }
     requires rows { rows ≤ tall sheet.now }
     requires radius { radius ≤ most_radius }
-    requires room { HasRoom sheet.now room.old }
-    ensures room { HasRoom sheet.now room.new }
-    ensures memory { KeepsMemory room.old room.new }
-    ensures entered { (older : List ℕ) → IsUnderWay sheet.now radius c older room.old 0 0
-        → IsUnderWay sheet.now radius c older room.new rows 0 }
+    requires workspace { HasWorkspace sheet.now workspace.old }
+    ensures workspace { HasWorkspace sheet.now workspace.new }
+    ensures memory { KeepsMemory workspace.old workspace.new }
+    ensures entered { (older : List ℕ) → IsUnderWay sheet.now radius c older workspace.old 0 0
+        → IsUnderWay sheet.now radius c older workspace.new rows 0 }
     ensures steps { steps.new ≡ steps.old + wide sheet.now * rows }
 {
     for y in 0..rows {
-        enter_row(sheet, c, y, radius, room, steps);
+        enter_row(sheet, c, y, radius, workspace, steps);
     }
 }
 
@@ -113,40 +113,40 @@ fn pass_rows<L: Ledger>(
     c: u32,
     rows: u32,
     radius: u32,
-    room: &mut Room,
+    workspace: &mut Workspace,
     steps: &mut Steps<L>,
 )
     requires plate { c < length sheet.now }
     requires rows { rows ≡ tall sheet.now - radius }
     requires radius { radius ≤ most_radius }
-    requires room { HasRoom sheet.now room.old }
-    ensures room { HasRoom sheet.now room.new }
-    ensures memory { KeepsMemory room.old room.new }
+    requires workspace { HasWorkspace sheet.now workspace.old }
+    ensures workspace { HasWorkspace sheet.now workspace.new }
+    ensures memory { KeepsMemory workspace.old workspace.new }
     ensures passed { (older : List ℕ)
-        → IsUnderWay sheet.now radius c older room.old (min radius (tall sheet.now)) 0
-        → IsUnderWay sheet.now radius c older room.new (tall sheet.now) rows }
+        → IsUnderWay sheet.now radius c older workspace.old (min radius (tall sheet.now)) 0
+        → IsUnderWay sheet.now radius c older workspace.new (tall sheet.now) rows }
     ensures steps { steps.new ≡ steps.old + wide sheet.now * rows }
 {
     let _height = sheet.height();
     for y in 0..rows {
-        enter_row(sheet, c, y + radius, radius, room, steps);
-        leave_row(sheet, y, room);
+        enter_row(sheet, c, y + radius, radius, workspace, steps);
+        leave_row(sheet, y, workspace);
     }
 }
 
 /// Finishes the last rows, after all rows were read.
-fn leave_rows(sheet: &Sheet, first: u32, height: u32, room: &mut Room)
+fn leave_rows(sheet: &Sheet, first: u32, height: u32, workspace: &mut Workspace)
     requires height { height ≡ tall sheet.now }
-    requires room { HasRoom sheet.now room.old }
-    ensures room { HasRoom sheet.now room.new }
-    ensures memory { KeepsMemory room.old room.new }
+    requires workspace { HasWorkspace sheet.now workspace.old }
+    ensures workspace { HasWorkspace sheet.now workspace.new }
+    ensures memory { KeepsMemory workspace.old workspace.new }
     ensures left { (radius c : ℕ) (older : List ℕ) → tall sheet.now ≤ first + radius
         → first ≤ height
-        → IsUnderWay sheet.now radius c older room.old (tall sheet.now) first
-        → IsUnderWay sheet.now radius c older room.new (tall sheet.now) (tall sheet.now) }
+        → IsUnderWay sheet.now radius c older workspace.old (tall sheet.now) first
+        → IsUnderWay sheet.now radius c older workspace.new (tall sheet.now) (tall sheet.now) }
 {
     for y in first..height {
-        leave_row(sheet, y, room);
+        leave_row(sheet, y, workspace);
     }
 }
 
@@ -165,23 +165,23 @@ pub(crate) fn shade_plate<L: Ledger>(
     c: u32,
     height: u32,
     radius: u32,
-    room: &mut Room,
+    workspace: &mut Workspace,
     steps: &mut Steps<L>,
 )
     requires plate { c < length sheet.now }
     requires height { height ≡ tall sheet.now }
     requires radius { radius ≤ most_radius }
-    requires room { HasRoom sheet.now room.old }
-    ensures room { HasRoom sheet.now room.new }
-    ensures memory { KeepsMemory room.old room.new }
+    requires workspace { HasWorkspace sheet.now workspace.old }
+    ensures workspace { HasWorkspace sheet.now workspace.new }
+    ensures memory { KeepsMemory workspace.old workspace.new }
     ensures shades { (x y : ℕ) → x < wide sheet.now → y < tall sheet.now
-        → at room.new.shades.items (wide sheet.now) y x
-        ≡ min (at room.old.shades.items (wide sheet.now) y x) (shade sheet.now radius c x y) }
+        → at workspace.new.shades.items (wide sheet.now) y x
+        ≡ min (at workspace.old.shades.items (wide sheet.now) y x) (shade sheet.now radius c x y) }
     ensures steps { steps.new ≡ steps.old + wide sheet.now * tall sheet.now }
 {
-    begin(room.until.as_mut_slice());
+    begin(workspace.until.as_mut_slice());
     let lead = radius.min(height);
-    enter_rows(sheet, c, lead, radius, room, steps);
-    pass_rows(sheet, c, height - lead, radius, room, steps);
-    leave_rows(sheet, height - lead, height, room);
+    enter_rows(sheet, c, lead, radius, workspace, steps);
+    pass_rows(sheet, c, height - lead, radius, workspace, steps);
+    leave_rows(sheet, height - lead, height, workspace);
 }

@@ -2,7 +2,7 @@ ghost use Rattle.std.specs.Prelude.{◌≡◌, ◌+◌, ◌<◌, ◌≤◌, ◌*
 ghost use Rattle.page_model.specs.Limits.{most_plates, most_side};
 ghost use Rattle.page_model.specs.Planes.{tints_of};
 ghost use Rattle.page_model.specs.Shapes.{AreOneShape, wide, tall};
-ghost use Rattle.misregister.specs.Risk.{is_bare};
+ghost use Rattle.misregister.specs.Risk.{is_outline};
 ghost use Rattle.misregister.specs.Sweep.{bit};
 
 use page_model::parts::PlaneList;
@@ -38,11 +38,11 @@ impl<'a> Sheet<'a> {
     }
 
     /// Whether plate c has no ink on a sample. It takes one step.
-    pub fn is_bare<L: Ledger>(&self, c: u32, x: u32, y: u32, steps: &mut Steps<L>) -> bool
+    pub fn is_outline<L: Ledger>(&self, c: u32, x: u32, y: u32, steps: &mut Steps<L>) -> bool
         requires plate { c < length self.now }
         requires column { x < wide self.now }
         requires row { y < tall self.now }
-        ensures bare { result ≡ is_bare self.now c x y }
+        ensures outline { result ≡ is_outline self.now c x y }
         ensures step { steps.new ≡ steps.old + 1 }
     {
         steps.tick();
@@ -51,12 +51,18 @@ impl<'a> Sheet<'a> {
     }
 
     /// Writes for each sample of a row of plate c 2 where it has no ink, else 1. It takes a step for each of them.
-    pub(crate) fn bare_row<L: Ledger>(&self, c: u32, y: u32, row: &mut [u8], steps: &mut Steps<L>)
+    pub(crate) fn outline_row<L: Ledger>(
+        &self,
+        c: u32,
+        y: u32,
+        row: &mut [u8],
+        steps: &mut Steps<L>,
+    )
         requires plate { c < length self.now }
         requires row { y < tall self.now }
         requires wide { length row.old ≡ wide self.now }
         ensures noted { (x : ℕ) → x < wide self.now
-            → slice_index row.new x ≡ 1 + bit (is_bare self.now c x y) }
+            → slice_index row.new x ≡ 1 + bit (is_outline self.now c x y) }
         ensures steps { steps.new ≡ steps.old + wide self.now }
     {
         let tints = self.row(c, y, steps);

@@ -26,7 +26,7 @@ fn place_of(page: &Page, p: At) -> usize
 }
 
 /// The tint of plate c at p; `spot` is the index of p.
-#[tactic(auto, using(page_model::proofs::PageLemmas::place_held, page_model::proofs::PageLemmas::tint_at_most))]
+#[tactic(auto, using(page_model::proofs::PageLemmas::place_stored, page_model::proofs::PageLemmas::tint_at_most))]
 fn tint_at(page: &Page, c: u32, p: At, spot: usize) -> u16
     requires plate { c < plates page.now }
     requires sample { InPage page.now p }

@@ -4,7 +4,7 @@ use Rattle.std.proofs.Math.Seq.{take-length, take-append-add}
 use Rattle.std.proofs.lemmas.Bool.{cases_lt}
 use Rattle.std.proofs.lemmas.List.{take-append-le, take_min, length-take-le}
 use Rattle.outside.specs.Counts.{one_more}
-use Rattle.outside.specs.Causes.{Rose, RoseOnce, Asks}
+use Rattle.outside.specs.ErrorCases.{Rose, RoseOnce, Asks}
 use Rattle.outside.specs.Rack.{RackState, KeepsRack, Creates, Writes, Finishes, FinishesFile}
 use borrow.Rule.Slice.PartMut.{put_mid, post_of}
 use Rattle.std.proofs.Common.{append_assoc}
@@ -38,12 +38,12 @@ rose_after a b c first then (inl less) = inl (omega arith)
 rose_after a b c first then (inr last) = elim (cases_lt a c) [ inl less ↦ inl less | inr back ↦ inr (omega arith) ]
 
 -- What is told once is told later on.
-pub told_on : (a b : RackState) → KeepsRack a b → IsTrue a.tells → IsTrue b.tells
-told_on a b keeps tells = keeps.tells ∙ tells
+pub reported_on : (a b : RackState) → KeepsRack a b → IsTrue a.tells → IsTrue b.tells
+reported_on a b keeps tells = keeps.tells ∙ tells
 
 -- A file that is finished after calls that finish none.
 pub finished_after : (name : List ℕ) (a b c : RackState) → KeepsRack a b → b.finished ≡ a.finished → FinishesFile name b c → FinishesFile name a c
-finished_after name a b c keeps same finished tells = subst (λ o. Asks o c.finished (name ∷ [])) same (finished (told_on a b keeps tells))
+finished_after name a b c keeps same finished tells = subst (λ o. Asks o c.finished (name ∷ [])) same (finished (reported_on a b keeps tells))
 
 -- The file that was created last is the one that is finished.
 finished_named : (name : List ℕ) (a b c : RackState) → (IsTrue a.tells → b.current ≡ name) → FinishesFile b.current a c → FinishesFile name a c
@@ -53,29 +53,29 @@ pub written_then_finished : {T U E D : Type 0} (bytes : List ℕ) (a b c : RackS
 written_then_finished bytes a b c x (Ok y) wrote finished = record {
   keeps = kept_then a b c wrote.keeps finished.keeps;
   asked = finished.asked ∙ wrote.asked;
-  told = λ tells. finished.told (told_on a b wrote.keeps tells) ∙ wrote.told tells;
+  reported = λ tells. finished.reported (reported_on a b wrote.keeps tells) ∙ wrote.reported tells;
   shut = finished.shut;
-  finished = λ tells. finished_after a.current a b c wrote.keeps wrote.finished (λ told. subst (λ n. Asks b.finished c.finished (n ∷ [])) (wrote.current tells) (finished.finished told)) tells;
+  finished = λ tells. finished_after a.current a b c wrote.keeps wrote.finished (λ reported. subst (λ n. Asks b.finished c.finished (n ∷ [])) (wrote.current tells) (finished.finished reported)) tells;
   unfinished = tt;
   kept = tt;
-  files = λ tells. grows_kept bytes a b c (finished.files (told_on a b wrote.keeps tells)) (wrote.files tells);
+  files = λ tells. grows_kept bytes a b c (finished.files (reported_on a b wrote.keeps tells)) (wrote.files tells);
   part = tt;
   well = finished.fails.well ∙ wrote.well;
-  cause = tt;
+  reason = tt;
   once = tt;
 }
 written_then_finished bytes a b c x (Err e) wrote finished = record {
   keeps = kept_then a b c wrote.keeps finished.keeps;
   asked = finished.asked ∙ wrote.asked;
-  told = λ tells. finished.told (told_on a b wrote.keeps tells) ∙ wrote.told tells;
+  reported = λ tells. finished.reported (reported_on a b wrote.keeps tells) ∙ wrote.reported tells;
   shut = tt;
   finished = tt;
   unfinished = finished.unfinished ∙ wrote.finished;
   kept = finished.kept.0 ∙ wrote.is_open;
   files = tt;
-  part = λ tells. (length bytes, subst (λ (x : List ℕ). Grows x a c) (sym (take-length bytes)) (grows_kept bytes a b c (finished.files (told_on a b wrote.keeps tells)) (wrote.files tells)));
+  part = λ tells. (length bytes, subst (λ (x : List ℕ). Grows x a c) (sym (take-length bytes)) (grows_kept bytes a b c (finished.files (reported_on a b wrote.keeps tells)) (wrote.files tells)));
   well = tt;
-  cause = rose_before a.faults b.faults c.faults wrote.keeps.faults finished.fails.cause;
+  reason = rose_before a.faults b.faults c.faults wrote.keeps.faults finished.fails.reason;
   once = once_before a.faults b.faults c.faults wrote.well finished.fails.once;
 }
 
@@ -83,43 +83,43 @@ pub created_then_filled : {T U E D : Type 0} (name bytes : List ℕ) (a b c : Ra
 created_then_filled name bytes a b c x (Ok y) created filled = record {
   keeps = kept_then a b c created.keeps filled.keeps;
   asked = subst (λ o. Asks a.asked o (name ∷ [])) (sym filled.asked) created.asked;
-  told = λ tells. filled.told (told_on a b created.keeps tells) ∙ created.told tells;
+  reported = λ tells. filled.reported (reported_on a b created.keeps tells) ∙ created.reported tells;
   shut = filled.shut;
   finished = finished_named name a b c created.current (finished_after b.current a b c created.keeps created.finished filled.finished);
   unfinished = tt;
-  files = λ tells. grows_put name bytes a b c (created.current tells) (created.files tells) (filled.files (told_on a b created.keeps tells));
+  files = λ tells. grows_put name bytes a b c (created.current tells) (created.files tells) (filled.files (reported_on a b created.keeps tells));
   part = tt;
   well = filled.well ∙ created.fails.well;
-  cause = tt;
+  reason = tt;
   once = tt;
 }
 created_then_filled name bytes a b c x (Err e) created filled = record {
   keeps = kept_then a b c created.keeps filled.keeps;
   asked = subst (λ o. Asks a.asked o (name ∷ [])) (sym filled.asked) created.asked;
-  told = λ tells. filled.told (told_on a b created.keeps tells) ∙ created.told tells;
+  reported = λ tells. filled.reported (reported_on a b created.keeps tells) ∙ created.reported tells;
   shut = tt;
   finished = tt;
   unfinished = filled.unfinished ∙ created.finished;
   files = tt;
-  part = λ tells. let p = filled.part (told_on a b created.keeps tells) in inr (filled.kept ∙ created.opened, (p.0, grows_put name (take p.0 bytes) a b c (created.current tells) (created.files tells) p.1));
+  part = λ tells. let p = filled.part (reported_on a b created.keeps tells) in inr (filled.kept ∙ created.opened, (p.0, grows_put name (take p.0 bytes) a b c (created.current tells) (created.files tells) p.1));
   well = tt;
-  cause = rose_before a.faults b.faults c.faults created.keeps.faults filled.cause;
+  reason = rose_before a.faults b.faults c.faults created.keeps.faults filled.reason;
   once = once_before a.faults b.faults c.faults created.fails.well filled.once;
 }
 
 -- Where a write fails after some of the piece is written, nothing more is.
-pub write_failed : {U E D : Type 0} (piece rest : List ℕ) (done : ℕ) (a b c : RackState) (e : E) (d : D) → KeepsRack a b → b.asked ≡ a.asked → b.finished ≡ a.finished → b.faults ≡ a.faults → (IsTrue a.tells → b.told ≡ a.told) → b.is_open ≡ a.is_open → (IsTrue a.tells → b.current ≡ a.current) → (IsTrue a.tells → Grows (take done piece) a b) → Writes rest b c (Err e) → WritesOn {T = U} piece a c (Err d)
-write_failed piece rest done a b c e d keeps asked finished well told is_open current files wrote = record {
+pub write_failed : {U E D : Type 0} (piece rest : List ℕ) (done : ℕ) (a b c : RackState) (e : E) (d : D) → KeepsRack a b → b.asked ≡ a.asked → b.finished ≡ a.finished → b.faults ≡ a.faults → (IsTrue a.tells → b.reported ≡ a.reported) → b.is_open ≡ a.is_open → (IsTrue a.tells → b.current ≡ a.current) → (IsTrue a.tells → Grows (take done piece) a b) → Writes rest b c (Err e) → WritesOn {T = U} piece a c (Err d)
+write_failed piece rest done a b c e d keeps asked finished well reported is_open current files wrote = record {
   keeps = kept_then a b c keeps wrote.keeps;
   asked = wrote.asked ∙ asked;
   finished = wrote.finished ∙ finished;
-  told = λ tells. wrote.told (told_on a b keeps tells) ∙ told tells;
+  reported = λ tells. wrote.reported (reported_on a b keeps tells) ∙ reported tells;
   is_open = wrote.is_open ∙ is_open;
-  current = λ tells. wrote.current (told_on a b keeps tells) ∙ current tells;
+  current = λ tells. wrote.current (reported_on a b keeps tells) ∙ current tells;
   files = tt;
-  part = λ tells. (done, grows_kept (take done piece) a b c (wrote.fails.files (told_on a b keeps tells)) (files tells));
+  part = λ tells. (done, grows_kept (take done piece) a b c (wrote.fails.files (reported_on a b keeps tells)) (files tells));
   well = tt;
-  cause = rose_before a.faults b.faults c.faults keeps.faults wrote.fails.cause;
+  reason = rose_before a.faults b.faults c.faults keeps.faults wrote.fails.reason;
   once = once_before a.faults b.faults c.faults well wrote.fails.once;
 }
 
@@ -129,28 +129,28 @@ writes_then p q a b c x (Ok y) one two = record {
   keeps = kept_then a b c one.keeps two.keeps;
   asked = two.asked ∙ one.asked;
   finished = two.finished ∙ one.finished;
-  told = λ tells. two.told (told_on a b one.keeps tells) ∙ one.told tells;
+  reported = λ tells. two.reported (reported_on a b one.keeps tells) ∙ one.reported tells;
   is_open = two.is_open ∙ one.is_open;
-  current = λ tells. two.current (told_on a b one.keeps tells) ∙ one.current tells;
-  files = λ tells. grows_then p q a b c (one.current tells) (one.files tells) (two.files (told_on a b one.keeps tells));
+  current = λ tells. two.current (reported_on a b one.keeps tells) ∙ one.current tells;
+  files = λ tells. grows_then p q a b c (one.current tells) (one.files tells) (two.files (reported_on a b one.keeps tells));
   part = tt;
   well = two.well ∙ one.well;
-  cause = tt;
+  reason = tt;
   once = tt;
 }
 writes_then p q a b c x (Err e) one two = record {
   keeps = kept_then a b c one.keeps two.keeps;
   asked = two.asked ∙ one.asked;
   finished = two.finished ∙ one.finished;
-  told = λ tells. two.told (told_on a b one.keeps tells) ∙ one.told tells;
+  reported = λ tells. two.reported (reported_on a b one.keeps tells) ∙ one.reported tells;
   is_open = two.is_open ∙ one.is_open;
-  current = λ tells. two.current (told_on a b one.keeps tells) ∙ one.current tells;
+  current = λ tells. two.current (reported_on a b one.keeps tells) ∙ one.current tells;
   files = tt;
   part = λ tells.
-      let k = two.part (told_on a b one.keeps tells) in
+      let k = two.part (reported_on a b one.keeps tells) in
       (length p + k.0, subst (λ (x : List ℕ). Grows x a c) (sym (take-append-add p q k.0)) (grows_then p (take k.0 q) a b c (one.current tells) (one.files tells) k.1));
   well = tt;
-  cause = rose_before a.faults b.faults c.faults one.keeps.faults two.cause;
+  reason = rose_before a.faults b.faults c.faults one.keeps.faults two.reason;
   once = once_before a.faults b.faults c.faults one.well two.once;
 }
 
@@ -160,7 +160,7 @@ writes_stopped p q a b e d one = record {
   keeps = one.keeps;
   asked = one.asked;
   finished = one.finished;
-  told = one.told;
+  reported = one.reported;
   is_open = one.is_open;
   current = one.current;
   files = tt;
@@ -168,7 +168,7 @@ writes_stopped p q a b e d one = record {
       let k = one.part tells in
       (min k.0 (length p), subst (λ (x : List ℕ). Grows x a b) (sym (take-append-le (min k.0 (length p)) p q (omega arith) ∙ take_min k.0 p)) k.1);
   well = tt;
-  cause = one.cause;
+  reason = one.reason;
   once = one.once;
 }
 

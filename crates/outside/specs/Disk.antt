@@ -24,7 +24,7 @@ disk_rack_of d =
     record {
       tells = false;
       file = λ name. None;
-      told = [];
+      reported = [];
       is_open = d.is_open;
       current = [];
       asked = None;

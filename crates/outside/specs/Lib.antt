@@ -1,5 +1,5 @@
 pub mod Counts
-pub mod Causes
+pub mod ErrorCases
 pub mod Tray
 pub mod Rack
 pub mod Reading

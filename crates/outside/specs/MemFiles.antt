@@ -42,4 +42,4 @@ fails_at files (Some place) taken = is_at (file_at files place).fails_at taken
 -- where a read has to end, in a file of length `len` of which `taken` bytes were read
 abbrev pub end_before : Option ℕ → ℕ → ℕ → ℕ
 end_before None len taken = len
-end_before (Some stop) len taken = if nat_lt taken stop && nat_lt stop len then stop else len
+end_before (Some error) len taken = if nat_lt taken error && nat_lt error len then error else len

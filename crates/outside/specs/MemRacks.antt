@@ -11,11 +11,11 @@ pub record MemRackState : Type 0 where
   -- the files that were created before the last one, and that one
   pub done : List RackFile
   pub current : Option RackFile
-  pub told : List ℕ
+  pub reported : List ℕ
   pub is_open : Bool
   -- the most bytes that one write takes, and the bytes that there is still room for
   pub grain : ℕ
-  pub room : ℕ
+  pub workspace : ℕ
   -- the numbers of the calls that fail, and how many calls were made
   pub fails : List ℕ
   pub calls : ℕ
@@ -30,7 +30,7 @@ abbrev pub rack_of : MemRackState → RackState
 rack_of m = record {
   tells = true;
   file = files_of m.done m.current;
-  told = m.told;
+  reported = m.reported;
   is_open = m.is_open;
   current = name_of m.current;
   asked = m.asked;
@@ -40,14 +40,14 @@ rack_of m = record {
 
 -- no file, no text, and no call yet
 abbrev pub fresh_rack : ℕ → ℕ → List ℕ → MemRackState
-fresh_rack grain room
+fresh_rack grain workspace
     fails = record {
       done = [];
       current = None;
-      told = [];
+      reported = [];
       is_open = false;
       grain = grain;
-      room = room;
+      workspace = workspace;
       fails = fails;
       calls = 0;
       asked = Some [];
@@ -68,7 +68,7 @@ pub record CountsRack {T E : Type 0} (before after : MemRackState)
 
 -- how many bytes of a piece of that length the next write takes
 abbrev pub most_taken : MemRackState → ℕ → ℕ
-most_taken m len = min (min len m.grain) m.room
+most_taken m len = min (min len m.grain) m.workspace
 
 -- `write` takes as many bytes as the piece, the grain and the room allow, and fails where a
 -- piece that isn't empty meets
@@ -76,31 +76,31 @@ most_taken m len = min (min len m.grain) m.room
 pub record WritesMem {E : Type 0} (piece : List ℕ) (before after : MemRackState)
     (result : Result ℕ E) : Type 0 where
   pub counts : CountsRack before after result
-  pub full : before.room ≡ 0 → 0 < length piece → IsTrue (is_err result)
+  pub full : before.workspace ≡ 0 → 0 < length piece → IsTrue (is_err result)
   pub empty : length piece ≡ 0 → is_ok result ≡ not (is_listed before.fails before.calls)
   pub count : IfOk result (λ n. n ≡ most_taken before (length piece))
-  pub room : IfOk result (λ n. after.room + n ≡ before.room)
-  pub kept : OnErr result (after.room ≡ before.room)
+  pub workspace : IfOk result (λ n. after.workspace + n ≡ before.workspace)
+  pub kept : OnErr result (after.workspace ≡ before.workspace)
 
 -- `finish` fails exactly where its number is listed.
 pub record FinishesMem {T E : Type 0} (before after : MemRackState)
     (result : Result T E) : Type 0 where
   pub counts : CountsRack before after result
   pub exact : is_ok result ≡ not (is_listed before.fails before.calls)
-  pub room : after.room ≡ before.room
+  pub workspace : after.workspace ≡ before.workspace
 
 -- A `tell` that fails appends nothing. An empty text fails only by the call's number.
 pub record TellsMem {T E : Type 0} (text : List ℕ) (before after : MemRackState)
     (result : Result T E) : Type 0 where
   pub counts : CountsRack before after result
-  pub room : after.room ≡ before.room
+  pub workspace : after.workspace ≡ before.workspace
   pub empty : length text ≡ 0 → is_ok result ≡ not (is_listed before.fails before.calls)
-  pub kept : OnErr result (after.told ≡ before.told)
+  pub kept : OnErr result (after.reported ≡ before.reported)
 
 pub record CreatesMem {T E : Type 0} (before after : MemRackState)
     (result : Result T E) : Type 0 where
   pub counts : CountsRack before after result
-  pub room : after.room ≡ before.room
+  pub workspace : after.workspace ≡ before.workspace
 
 -- Some bytes are taken by each write, and a file that is open is there.
 pub record IsRackInside (grain : ℕ) (is_open : Bool) (current : Option RackFile) : Type 0 where

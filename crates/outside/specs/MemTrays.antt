@@ -56,7 +56,7 @@ end_at files (Some place) taken =
 
 -- how many bytes the next read gives to a buffer of that length
 abbrev pub most_given : MemTrayState → ℕ → ℕ
-most_given m room = min (min m.grain room) (end_at m.files m.place m.taken - m.taken)
+most_given m workspace = min (min m.grain workspace) (end_at m.files m.place m.taken - m.taken)
 
 -- A call counts, and it counts as a fault exactly where it fails.
 pub record CountsTray {T E : Type 0} (before after : MemTrayState)

@@ -1,7 +1,7 @@
 -- What it means to write on in the open file, and to write a whole file.
 use Rattle.std.specs.Prelude.{◌≡◌, ◌⊎◌, ℕ, IsTrue, IsFalse, List, [], ◌∷◌, ◌++◌, take, Option}
 use Rattle.std.specs.Prelude.{Result, OnOk, OnErr}
-use Rattle.outside.specs.Causes.{Rose, RoseOnce, Asks}
+use Rattle.outside.specs.ErrorCases.{Rose, RoseOnce, Asks}
 use Rattle.outside.specs.Rack.{RackState, KeepsRack, FinishesFile, put}
 
 -- Whatever bytes the current file has, the piece is put after them.
@@ -15,14 +15,14 @@ pub record WritesOn {T E : Type 0} (piece : List ℕ) (before after : RackState)
     (result : Result T E) : Type 0 where
   pub keeps : KeepsRack before after
   pub asked : after.asked ≡ before.asked
-  pub told : IsTrue before.tells → after.told ≡ before.told
+  pub reported : IsTrue before.tells → after.reported ≡ before.reported
   pub is_open : after.is_open ≡ before.is_open
   pub finished : after.finished ≡ before.finished
   pub current : IsTrue before.tells → after.current ≡ before.current
   pub files : OnOk result (IsTrue before.tells → Grows piece before after)
   pub part : OnErr result (IsTrue before.tells → (k : ℕ) × Grows (take k piece) before after)
   pub well : OnOk result (after.faults ≡ before.faults)
-  pub cause : OnErr result (Rose before.faults after.faults)
+  pub reason : OnErr result (Rose before.faults after.faults)
   pub once : OnErr result (RoseOnce before.faults after.faults)
 
 -- The file is not written whole. Where it was created it is still open, and a prefix of its bytes
@@ -38,7 +38,7 @@ pub record FillsFile {T E : Type 0} (bytes : List ℕ) (before after : RackState
     (result : Result T E) : Type 0 where
   pub keeps : KeepsRack before after
   pub asked : after.asked ≡ before.asked
-  pub told : IsTrue before.tells → after.told ≡ before.told
+  pub reported : IsTrue before.tells → after.reported ≡ before.reported
   pub shut : OnOk result (IsFalse after.is_open)
   pub finished : OnOk result (FinishesFile before.current before after)
   pub unfinished : OnErr result (after.finished ≡ before.finished)
@@ -46,7 +46,7 @@ pub record FillsFile {T E : Type 0} (bytes : List ℕ) (before after : RackState
   pub files : OnOk result (IsTrue before.tells → Grows bytes before after)
   pub part : OnErr result (IsTrue before.tells → (k : ℕ) × Grows (take k bytes) before after)
   pub well : OnOk result (after.faults ≡ before.faults)
-  pub cause : OnErr result (Rose before.faults after.faults)
+  pub reason : OnErr result (Rose before.faults after.faults)
   pub once : OnErr result (RoseOnce before.faults after.faults)
 
 -- All bytes stand under the name, and everything else is as it was.
@@ -54,12 +54,12 @@ pub record WritesFile {T E : Type 0} (name bytes : List ℕ) (before after : Rac
     (result : Result T E) : Type 0 where
   pub keeps : KeepsRack before after
   pub asked : Asks before.asked after.asked (name ∷ [])
-  pub told : IsTrue before.tells → after.told ≡ before.told
+  pub reported : IsTrue before.tells → after.reported ≡ before.reported
   pub shut : OnOk result (IsFalse after.is_open)
   pub finished : OnOk result (FinishesFile name before after)
   pub unfinished : OnErr result (after.finished ≡ before.finished)
   pub files : OnOk result (IsTrue before.tells → after.file ≡ put name bytes before.file)
   pub part : OnErr result (IsTrue before.tells → BreaksFile name bytes before.file after)
   pub well : OnOk result (after.faults ≡ before.faults)
-  pub cause : OnErr result (Rose before.faults after.faults)
+  pub reason : OnErr result (Rose before.faults after.faults)
   pub once : OnErr result (RoseOnce before.faults after.faults)

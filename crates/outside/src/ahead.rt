@@ -1,6 +1,6 @@
 ghost use Rattle.std.specs.Prelude.{◌≡◌, ◌<◌, ◌≤◌, IfOk, length};
 
-use crate::tray::Failed;
+use crate::tray::DeviceError;
 use std::io::{ErrorKind, Read};
 
 // How often an interrupted read is tried again.
@@ -37,7 +37,11 @@ impl Ahead {
     }
 
     // Reads on in the file, a whole piece where less is asked for.
-    pub(crate) fn read<F: Read>(&mut self, file: &mut F, buf: &mut [u8]) -> Result<usize, Failed>
+    pub(crate) fn read<F: Read>(
+        &mut self,
+        file: &mut F,
+        buf: &mut [u8],
+    ) -> Result<usize, DeviceError>
         ensures within { IfOk result (λ n. n ≤ length buf.new) }
     {
         if self.start == self.end {
@@ -47,7 +51,7 @@ impl Ahead {
             self.forget();
             match read_once(file, &mut self.bytes) {
                 Ok(count) => self.end = count,
-                Err(Failed) => return Err(Failed),
+                Err(DeviceError) => return Err(DeviceError),
             }
         }
         Ok(self.give(buf))
@@ -65,7 +69,7 @@ impl Ahead {
 }
 
 // Reads, and tries again where the read is interrupted.
-pub(crate) fn read_once<F: Read>(file: &mut F, buf: &mut [u8]) -> Result<usize, Failed>
+pub(crate) fn read_once<F: Read>(file: &mut F, buf: &mut [u8]) -> Result<usize, DeviceError>
     ensures within { IfOk result (λ n. n ≤ length buf.new) }
     ensures same { length buf.new ≡ length buf.old }
 {
@@ -73,8 +77,8 @@ pub(crate) fn read_once<F: Read>(file: &mut F, buf: &mut [u8]) -> Result<usize, 
         match file.read(buf) {
             Ok(count) => return Ok(count),
             Err(error) if error.kind() == ErrorKind::Interrupted => {}
-            Err(_) => return Err(Failed),
+            Err(_) => return Err(DeviceError),
         }
     }
-    Err(Failed)
+    Err(DeviceError)
 }

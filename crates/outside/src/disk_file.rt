@@ -1,6 +1,6 @@
 ghost use Rattle.std.specs.Prelude.{◌<◌, ◌≤◌, IfOk, length};
 
-use crate::tray::Failed;
+use crate::tray::DeviceError;
 use arrayvec::ArrayString;
 use std::alloc::Allocator;
 use std::fmt::InlineText;
@@ -73,7 +73,7 @@ impl<R: Files> Drop for DiskFile<'_, R> {
 impl<'a, R: Files> DiskFile<'a, R> {
     // Begins an empty file for that name. A file that stands there is left as it is, and has to be writable; a link is
     // followed.
-    pub(crate) fn create(files: &'a R, name: &str) -> Result<DiskFile<'a, R>, Failed>
+    pub(crate) fn create(files: &'a R, name: &str) -> Result<DiskFile<'a, R>, DeviceError>
     where
         R: Alloc,
     {
@@ -85,7 +85,7 @@ impl<'a, R: Files> DiskFile<'a, R> {
     }
 
     // Writes a prefix of the piece, and returns its length, which is 0 only for an empty piece.
-    pub(crate) fn write(&mut self, piece: &[u8]) -> Result<usize, Failed>
+    pub(crate) fn write(&mut self, piece: &[u8]) -> Result<usize, DeviceError>
     where
         R: Print,
         ensures within { IfOk result (λ n. n ≤ length piece.now) }
@@ -104,13 +104,13 @@ impl<'a, R: Files> DiskFile<'a, R> {
             }
         }
         self.is_broken = true;
-        Err(Failed)
+        Err(DeviceError)
     }
 
     // Writes the file through to the disk, and renames it to its place. It fails if any call of this file failed.
-    pub(crate) fn finish(&mut self) -> Result<(), Failed> {
+    pub(crate) fn finish(&mut self) -> Result<(), DeviceError> {
         if self.is_broken {
-            return Err(Failed);
+            return Err(DeviceError);
         }
         self.is_broken = true;
         write_through(&self.file)?;
@@ -123,19 +123,19 @@ impl<'a, R: Files> DiskFile<'a, R> {
 }
 
 // What a call of the system gave, without the reason of a failure.
-fn plain<T>(answer: io::Result<T>) -> Result<T, Failed> {
+fn plain<T>(answer: io::Result<T>) -> Result<T, DeviceError> {
     match answer {
         Ok(value) => Ok(value),
-        Err(_) => Err(Failed),
+        Err(_) => Err(DeviceError),
     }
 }
 
 // The same, with `None` where it failed for that reason.
-fn unless<T>(answer: io::Result<T>, reason: ErrorKind) -> Result<Option<T>, Failed> {
+fn unless<T>(answer: io::Result<T>, reason: ErrorKind) -> Result<Option<T>, DeviceError> {
     match answer {
         Ok(value) => Ok(Some(value)),
         Err(error) if error.kind() == reason => Ok(None),
-        Err(_) => Err(Failed),
+        Err(_) => Err(DeviceError),
     }
 }
 
@@ -155,15 +155,15 @@ fn open_at_end<'a, R: Files>(
     files: &'a R,
     name: &str,
     is_output: bool,
-) -> Result<DiskFile<'a, R>, Failed> {
+) -> Result<DiskFile<'a, R>, DeviceError> {
     match OpenOptions::new().append(true).open(files, name) {
         Ok(file) => Ok(in_place(files, file, is_output)),
-        Err(_) => Err(Failed),
+        Err(_) => Err(DeviceError),
     }
 }
 
 // Begins a file at its place, if what stands there may be written.
-fn create_at<R: Files>(files: &R, place: PathText) -> Result<DiskFile<'_, R>, Failed> {
+fn create_at<R: Files>(files: &R, place: PathText) -> Result<DiskFile<'_, R>, DeviceError> {
     let old = OpenOptions::new().write(true).open(files, place.as_str());
     match unless(old, ErrorKind::NotFound)? {
         Some(old) => create_over(files, place, old),
@@ -176,16 +176,16 @@ fn create_over<R: Files>(
     files: &R,
     place: PathText,
     old: R::File,
-) -> Result<DiskFile<'_, R>, Failed> {
+) -> Result<DiskFile<'_, R>, DeviceError> {
     match old.metadata() {
         Ok(metadata) if metadata.is_file() => begin_beside(files, place, Some(metadata)),
         Ok(_) => Ok(in_place(files, old, false)),
-        Err(_) => Err(Failed),
+        Err(_) => Err(DeviceError),
     }
 }
 
 // Finds where the name leads. It allocates only for a link.
-fn place_of<R: Files + Alloc>(files: &R, name: &str) -> Result<Place, Failed> {
+fn place_of<R: Files + Alloc>(files: &R, name: &str) -> Result<Place, DeviceError> {
     let mut place = path_text(name)?;
     for _ in 0..MOST_LINKS {
         if is_output(place.as_str()) {
@@ -199,7 +199,7 @@ fn place_of<R: Files + Alloc>(files: &R, name: &str) -> Result<Place, Failed> {
         }
         place = link_of(files, place.as_str())?;
     }
-    Err(Failed)
+    Err(DeviceError)
 }
 
 fn is_output(place: &str) -> bool {
@@ -211,37 +211,37 @@ fn is_open(place: &str) -> bool {
 }
 
 // Whether a link stands at that place, and not a file or nothing.
-fn is_link<R: Files>(files: &R, place: &str) -> Result<bool, Failed> {
+fn is_link<R: Files>(files: &R, place: &str) -> Result<bool, DeviceError> {
     match fs::symlink_metadata(files, place) {
         Ok(metadata) => Ok(metadata.is_symlink()),
         Err(error) if error.kind() == ErrorKind::NotFound => Ok(false),
-        Err(_) => Err(Failed),
+        Err(_) => Err(DeviceError),
     }
 }
 
 // Where the link at that place leads.
-fn link_of<R: Files + Alloc>(files: &R, place: &str) -> Result<PathText, Failed> {
+fn link_of<R: Files + Alloc>(files: &R, place: &str) -> Result<PathText, DeviceError> {
     match fs::read_link(files, place) {
         Ok(link) => match Path::new(place).parent() {
             Some(folder) => within(files.alloc(), folder, link.as_str()),
             None => path_text(link.as_str()),
         },
-        Err(_) => Err(Failed),
+        Err(_) => Err(DeviceError),
     }
 }
 
 // A path that is seen from that folder.
-fn within<A: Allocator>(alloc: A, folder: Path, path: &str) -> Result<PathText, Failed> {
+fn within<A: Allocator>(alloc: A, folder: Path, path: &str) -> Result<PathText, DeviceError> {
     match folder.join(alloc, path) {
         Ok(whole) => path_text(whole.as_str()),
-        Err(_) => Err(Failed),
+        Err(_) => Err(DeviceError),
     }
 }
 
-fn path_text(text: &str) -> Result<PathText, Failed> {
+fn path_text(text: &str) -> Result<PathText, DeviceError> {
     match PathText::from(text) {
         Ok(path) => Ok(path),
-        Err(_) => Err(Failed),
+        Err(_) => Err(DeviceError),
     }
 }
 
@@ -250,7 +250,7 @@ fn begin_beside<R: Files>(
     files: &R,
     name: PathText,
     old: Option<Metadata>,
-) -> Result<DiskFile<'_, R>, Failed> {
+) -> Result<DiskFile<'_, R>, DeviceError> {
     for number in 0..MOST_NAMES {
         let written = name_beside(name.as_str(), number)?;
         let file = OpenOptions::new()
@@ -261,7 +261,7 @@ fn begin_beside<R: Files>(
             return in_place_of(files, file, Beside { written, name }, old);
         }
     }
-    Err(Failed)
+    Err(DeviceError)
 }
 
 // A temporary file that was just created, with the rights of the file that it replaces.
@@ -270,7 +270,7 @@ fn in_place_of<R: Files>(
     file: R::File,
     beside: Beside,
     old: Option<Metadata>,
-) -> Result<DiskFile<'_, R>, Failed> {
+) -> Result<DiskFile<'_, R>, DeviceError> {
     let begun = DiskFile {
         files,
         file,
@@ -291,7 +291,7 @@ fn keep_rights<R: Files>(
     file: &R::File,
     written: &str,
     old: &Metadata,
-) -> Result<(), Failed> {
+) -> Result<(), DeviceError> {
     let new = plain(file.metadata())?;
     let mut mode = old.permissions().mode();
     let is_other = new.uid() != old.uid() || new.gid() != old.gid();
@@ -303,10 +303,10 @@ fn keep_rights<R: Files>(
 }
 
 // The name of the temporary file of that number, in the same folder.
-fn name_beside(name: &str, number: u32) -> Result<PathText, Failed> {
+fn name_beside(name: &str, number: u32) -> Result<PathText, DeviceError> {
     let path = Path::new(name);
     let Some(last) = path.file_name() else {
-        return Err(Failed);
+        return Err(DeviceError);
     };
     let mut text = match path.parent() {
         Some(folder) => folder_text(folder.as_str())?,
@@ -317,7 +317,7 @@ fn name_beside(name: &str, number: u32) -> Result<PathText, Failed> {
 }
 
 // A folder, with a slash at its end unless it is empty.
-fn folder_text(folder: &str) -> Result<PathText, Failed> {
+fn folder_text(folder: &str) -> Result<PathText, DeviceError> {
     let mut text = path_text(folder)?;
     if !folder.is_empty() && !folder.ends_with("/") {
         push(&mut text, "/")?;
@@ -326,31 +326,31 @@ fn folder_text(folder: &str) -> Result<PathText, Failed> {
 }
 
 // Appends the name of the temporary file of that number, beside a file of that name.
-fn push_name(text: &mut PathText, name: &str, number: u32) -> Result<(), Failed> {
+fn push_name(text: &mut PathText, name: &str, number: u32) -> Result<(), DeviceError> {
     push(text, ".")?;
     push(text, if name.len() <= LONG_NAME { name } else { "" })?;
     push(text, ".trap-")?;
     push(text, InlineText::<10>::of(number).as_str())
 }
 
-fn push(text: &mut PathText, part: &str) -> Result<(), Failed> {
+fn push(text: &mut PathText, part: &str) -> Result<(), DeviceError> {
     match text.try_push_str(part) {
         Ok(()) => Ok(()),
-        Err(_) => Err(Failed),
+        Err(_) => Err(DeviceError),
     }
 }
 
 // A file that cannot be synced, as a pipe, is no error.
-fn write_through<F: OpenFile>(file: &F) -> Result<(), Failed> {
+fn write_through<F: OpenFile>(file: &F) -> Result<(), DeviceError> {
     for _ in 0..TRIES {
         match file.sync_data() {
             Ok(()) => return Ok(()),
             Err(error) => match error.kind() {
                 ErrorKind::InvalidInput | ErrorKind::Unsupported => return Ok(()),
                 ErrorKind::Interrupted => {}
-                _ => return Err(Failed),
+                _ => return Err(DeviceError),
             },
         }
     }
-    Err(Failed)
+    Err(DeviceError)
 }

@@ -4,7 +4,7 @@ ghost use Rattle.outside.specs.Disk.{fresh_disk};
 use crate::disk_file::DiskFile;
 use crate::mem_calls::fault;
 use crate::rack::Rack;
-use crate::tray::Failed;
+use crate::tray::DeviceError;
 use std::io;
 use std::io::Write;
 use std::marker::Model;
@@ -49,7 +49,7 @@ impl<R: Files + Alloc + Print> Rack for DiskRack<'_, R> {
 
     ghost state = { disk_rack_of };
 
-    fn create(&mut self, name: &str) -> Result<(), Failed> {
+    fn create(&mut self, name: &str) -> Result<(), DeviceError> {
         self.current = None;
         self.current = DiskFile::create(self.files, name).ok();
         match &self.current {
@@ -58,30 +58,30 @@ impl<R: Files + Alloc + Print> Rack for DiskRack<'_, R> {
         }
     }
 
-    fn write(&mut self, piece: &[u8]) -> Result<usize, Failed> {
+    fn write(&mut self, piece: &[u8]) -> Result<usize, DeviceError> {
         match &mut self.current {
             Some(file) => match file.write(piece) {
                 Ok(count) => Ok(count),
-                Err(Failed) => Err(fault(&mut self.faults)),
+                Err(DeviceError) => Err(fault(&mut self.faults)),
             },
             None => Err(fault(&mut self.faults)),
         }
     }
 
-    fn finish(&mut self) -> Result<(), Failed> {
+    fn finish(&mut self) -> Result<(), DeviceError> {
         match &mut self.current {
             Some(file) => match file.finish() {
                 Ok(()) => {
                     self.current = None;
                     Ok(())
                 }
-                Err(Failed) => Err(fault(&mut self.faults)),
+                Err(DeviceError) => Err(fault(&mut self.faults)),
             },
             None => Err(fault(&mut self.faults)),
         }
     }
 
-    fn tell(&mut self, text: &[u8]) -> Result<(), Failed> {
+    fn tell(&mut self, text: &[u8]) -> Result<(), DeviceError> {
         match io::writer(self.files).write_all(text) {
             Ok(()) => Ok(()),
             Err(_) => Err(fault(&mut self.faults)),

@@ -1,7 +1,7 @@
 ghost use Rattle.std.specs.Prelude.{◌≡◌, ◌+◌, IsTrue, OnErr, Ok, length, min, true, false};
 ghost use Rattle.outside.specs.Tray.{Begins, Reads};
 
-use crate::tray::{Failed, Tray};
+use crate::tray::{DeviceError, Tray};
 use lists::names::Name;
 use std::marker::Model;
 
@@ -50,7 +50,7 @@ impl Tray for EndlessTray {
 
     ghost state = { endless_tray_of };
 
-    fn begin(&mut self, name: &str) -> Result<(), Failed>
+    fn begin(&mut self, name: &str) -> Result<(), DeviceError>
         ensures tray { let before = endless_tray_of self.old in
             Begins name.now before (endless_tray_of self.new) result }
         ensures begun { self.new ≡ record self.old { begun = true; taken = 0 } }
@@ -61,7 +61,7 @@ impl Tray for EndlessTray {
         Ok(())
     }
 
-    fn read(&mut self, buf: &mut [u8]) -> Result<usize, Failed>
+    fn read(&mut self, buf: &mut [u8]) -> Result<usize, DeviceError>
         requires { IsTrue self.old.begun }
         ensures tray { Reads (endless_tray_of self.old) (endless_tray_of self.new) result buf.new }
         ensures filled { result ≡ Ok (length buf.new) }

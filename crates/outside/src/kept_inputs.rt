@@ -1,7 +1,7 @@
 ghost use Rattle.std.specs.Prelude.{◌≤◌, IfOk, length};
 
 use crate::ahead::{Ahead, read_once};
-use crate::tray::Failed;
+use crate::tray::DeviceError;
 use std::alloc::Allocator;
 use std::fs::OpenFile;
 use std::io::{Read, Seek};
@@ -67,7 +67,7 @@ impl<F: Drop, A: Allocator> Input<F, A> {
 
 impl<F: Read + Drop, A: Allocator> Input<F, A> {
     // Reads on, in a regular file by way of the buffer.
-    pub(crate) fn read(&mut self, ahead: &mut Ahead, buf: &mut [u8]) -> Result<usize, Failed>
+    pub(crate) fn read(&mut self, ahead: &mut Ahead, buf: &mut [u8]) -> Result<usize, DeviceError>
         ensures within { IfOk result (λ n. n ≤ length buf.new) }
     {
         if self.is_regular {

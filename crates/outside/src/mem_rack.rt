@@ -5,13 +5,13 @@ ghost use Rattle.outside.specs.MemRacks.{rack_of};
 use crate::mem_calls::{fault, is_failing, note};
 use crate::rack::Rack;
 use crate::shelf::{RackFile, append, begin_file, file_named, grow};
-use crate::tray::Failed;
+use crate::tray::DeviceError;
 use lists::list::List;
 use lists::names::{CallList, Name};
 use std::alloc::Global;
 use std::marker::Model;
 
-/// A rack in memory, for tests. Each write takes at most `grain` bytes, all writes together at most `room` bytes, and
+/// A rack in memory, for tests. Each write takes at most `grain` bytes, all writes together at most `workspace` bytes, and
 /// chosen calls fail.
 #[derive(Drop)]
 pub struct MemRack {
@@ -21,14 +21,14 @@ pub struct MemRack {
     is_open: bool,
     text: Name,
     grain: usize,
-    room: u64,
+    workspace: u64,
     fails: CallList,
     calls: u64,
     faults: u64,
     asked: List<Name>,
-    is_asked_told: bool,
+    is_asked_reported: bool,
     finished: List<Name>,
-    is_finished_told: bool,
+    is_finished_reported: bool,
 }
 
 impl Model for MemRack {
@@ -40,14 +40,14 @@ impl Model for MemRack {
     ghost view = { λ m. record {
       done = m.done.items;
       current = m.current;
-      told = m.text;
+      reported = m.text;
       is_open = m.is_open;
       grain = m.grain;
-      room = m.room;
+      workspace = m.workspace;
       fails = m.fails;
       calls = m.calls;
-      asked = cond m.is_asked_told (Some m.asked) None;
-      finished = cond m.is_finished_told (Some m.finished) None;
+      asked = cond m.is_asked_reported (Some m.asked) None;
+      finished = cond m.is_finished_reported (Some m.finished) None;
       faults = m.faults;
     } };
 
@@ -61,9 +61,9 @@ impl MemRack {
 
     /// A rack with no file, and nothing printed. A call fails where its number, from 0 over `create`, `write`, `finish`
     /// and `tell`, is in `fails`, where a piece that is not empty meets no room, or where memory runs out.
-    pub fn new(alloc: Global, grain: usize, room: u64, fails: CallList) -> MemRack
+    pub fn new(alloc: Global, grain: usize, workspace: u64, fails: CallList) -> MemRack
         requires { 0 < grain }
-        ensures { result ≡ fresh_rack grain room fails }
+        ensures { result ≡ fresh_rack grain workspace fails }
     {
         MemRack {
             alloc,
@@ -72,20 +72,20 @@ impl MemRack {
             is_open: false,
             text: List::new(alloc),
             grain,
-            room,
+            workspace,
             fails,
             calls: 0,
             faults: 0,
             asked: List::new(alloc),
-            is_asked_told: true,
+            is_asked_reported: true,
             finished: List::new(alloc),
-            is_finished_told: true,
+            is_finished_reported: true,
         }
     }
 
     /// The text that was printed.
-    pub fn told(&self) -> &[u8]
-        ensures { result.now ≡ self.now.told }
+    pub fn reported(&self) -> &[u8]
+        ensures { result.now ≡ self.now.reported }
     {
         self.text.as_slice()
     }
@@ -112,14 +112,14 @@ impl Rack for MemRack {
 
     ghost state = { rack_of };
 
-    fn create(&mut self, name: &str) -> Result<(), Failed>
+    fn create(&mut self, name: &str) -> Result<(), DeviceError>
         ensures rack { Creates name.now (rack_of self.old) (rack_of self.new) result }
         ensures exact { CreatesMem self.old self.new result }
     {
-        self.is_asked_told = note(
+        self.is_asked_reported = note(
             self.alloc,
             &mut self.asked,
-            self.is_asked_told,
+            self.is_asked_reported,
             name.as_bytes(),
         );
         self.is_open = false;
@@ -133,24 +133,24 @@ impl Rack for MemRack {
         Ok(())
     }
 
-    fn write(&mut self, piece: &[u8]) -> Result<usize, Failed>
+    fn write(&mut self, piece: &[u8]) -> Result<usize, DeviceError>
         requires { IsTrue self.old.is_open }
         ensures rack { Writes piece.now (rack_of self.old) (rack_of self.new) result }
         ensures exact { WritesMem piece.now self.old self.new result }
     {
         let is_failing = is_failing(&mut self.calls, self.fails.as_slice());
-        if is_failing || (self.room == 0 && !piece.is_empty()) {
+        if is_failing || (self.workspace == 0 && !piece.is_empty()) {
             return Err(fault(&mut self.faults));
         }
-        let count = most_of(piece.len(), self.grain, self.room);
+        let count = most_of(piece.len(), self.grain, self.workspace);
         if !grow(self.alloc, &mut self.current, &piece[..count]) {
             return Err(fault(&mut self.faults));
         }
-        self.room -= count as u64;
+        self.workspace -= count as u64;
         Ok(count)
     }
 
-    fn finish(&mut self) -> Result<(), Failed>
+    fn finish(&mut self) -> Result<(), DeviceError>
         requires { IsTrue self.old.is_open }
         ensures rack { Finishes (rack_of self.old) (rack_of self.new) result }
         ensures exact { FinishesMem self.old self.new result }
@@ -161,17 +161,17 @@ impl Rack for MemRack {
         self.is_open = false;
         if let Some(file) = &self.current {
             let name = file.name.as_slice();
-            self.is_finished_told = note(
+            self.is_finished_reported = note(
                 self.alloc,
                 &mut self.finished,
-                self.is_finished_told,
+                self.is_finished_reported,
                 name,
             );
         }
         Ok(())
     }
 
-    fn tell(&mut self, text: &[u8]) -> Result<(), Failed>
+    fn tell(&mut self, text: &[u8]) -> Result<(), DeviceError>
         ensures rack { Tells text.now (rack_of self.old) (rack_of self.new) result }
         ensures exact { TellsMem text.now self.old self.new result }
     {
@@ -185,12 +185,12 @@ impl Rack for MemRack {
     }
 }
 
-fn most_of(len: usize, grain: usize, room: u64) -> usize
-    ensures { result ≡ min (min len grain) room }
+fn most_of(len: usize, grain: usize, workspace: u64) -> usize
+    ensures { result ≡ min (min len grain) workspace }
 {
     let most = len.min(grain);
-    if room < most as u64 {
-        room as usize
+    if workspace < most as u64 {
+        workspace as usize
     } else {
         most
     }

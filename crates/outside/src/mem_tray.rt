@@ -5,7 +5,7 @@ ghost use Rattle.outside.specs.MemFiles.{HaveDistinctNames, place_of, is_at, end
 
 use crate::mem_calls::{fault, is_failing, note};
 use crate::mem_file::{FileList, MemFile};
-use crate::tray::{Failed, Tray};
+use crate::tray::{DeviceError, Tray};
 use lists::list::List;
 use lists::names::{CallList, Name};
 use std::alloc::Global;
@@ -23,7 +23,7 @@ pub struct MemTray {
     place: Option<usize>,
     taken: usize,
     asked: List<Name>,
-    is_asked_told: bool,
+    is_asked_reported: bool,
 }
 
 impl Model for MemTray {
@@ -39,7 +39,7 @@ impl Model for MemTray {
       calls = m.calls;
       place = m.place;
       taken = m.taken;
-      asked = cond m.is_asked_told (Some m.asked) None;
+      asked = cond m.is_asked_reported (Some m.asked) None;
       faults = m.faults;
     } };
 
@@ -68,7 +68,7 @@ impl MemTray {
             place: None,
             taken: 0,
             asked: List::new(alloc),
-            is_asked_told: true,
+            is_asked_reported: true,
         }
     }
 }
@@ -97,11 +97,11 @@ fn give(bytes: &[u8], at: usize, most: usize, buf: &mut [u8]) -> usize
     count
 }
 
-fn is_stop(fails_at: Option<u64>, taken: usize) -> bool
+fn is_error(fails_at: Option<u64>, taken: usize) -> bool
     ensures { result ≡ is_at fails_at taken }
 {
     match fails_at {
-        Some(stop) => stop == taken as u64,
+        Some(error) => error == taken as u64,
         None => false,
     }
 }
@@ -111,9 +111,9 @@ fn end_of_read(fails_at: Option<u64>, len: usize, taken: usize) -> usize
     ensures { result ≡ end_before fails_at len taken }
 {
     match fails_at {
-        Some(stop) => {
-            if (taken as u64) < stop && stop < len as u64 {
-                stop as usize
+        Some(error) => {
+            if (taken as u64) < error && error < len as u64 {
+                error as usize
             } else {
                 len
             }
@@ -142,14 +142,14 @@ impl Tray for MemTray {
 
     ghost state = { tray_of };
 
-    fn begin(&mut self, name: &str) -> Result<(), Failed>
+    fn begin(&mut self, name: &str) -> Result<(), DeviceError>
         ensures tray { Begins name.now (tray_of self.old) (tray_of self.new) result }
         ensures exact { BeginsMem name.now self.old self.new result }
     {
-        self.is_asked_told = note(
+        self.is_asked_reported = note(
             self.alloc,
             &mut self.asked,
-            self.is_asked_told,
+            self.is_asked_reported,
             name.as_bytes(),
         );
         self.place = None;
@@ -164,7 +164,7 @@ impl Tray for MemTray {
         }
     }
 
-    fn read(&mut self, buf: &mut [u8]) -> Result<usize, Failed>
+    fn read(&mut self, buf: &mut [u8]) -> Result<usize, DeviceError>
         requires { IsTrue (is_some self.old.place) }
         ensures tray { Reads (tray_of self.old) (tray_of self.new) result buf.new }
         ensures exact { ReadsMem self.old self.new result buf.new }
@@ -174,7 +174,7 @@ impl Tray for MemTray {
             unreachable!()
         };
         let file = &self.files.as_slice()[place];
-        if is_failing || is_stop(file.fails_at, self.taken) {
+        if is_failing || is_error(file.fails_at, self.taken) {
             return Err(fault(&mut self.faults));
         }
         let count = read_on(file, self.taken, self.grain, buf);

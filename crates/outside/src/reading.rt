@@ -1,9 +1,9 @@
 ghost use Rattle.std.specs.Prelude.{◌≡◌, IsTrue, ◌∷◌, [], ◌++◌, ◌≤◌, ◌-◌, length, take, drop, IfOk, OnOk, IsErrOf};
-ghost use Rattle.outside.specs.Causes.{Rose, RoseOnce, Asks};
+ghost use Rattle.outside.specs.ErrorCases.{Rose, RoseOnce, Asks};
 ghost use Rattle.outside.specs.Tray.{KeepsTray};
 ghost use Rattle.outside.specs.Reading.{TakesPrefix, TakesAtMost, TakesFew};
 
-use crate::tray::{Failed, Tray};
+use crate::tray::{DeviceError, Tray};
 use lists::list::List;
 use lists::names::Name;
 use std::alloc::Global;
@@ -11,7 +11,7 @@ use thiserror::Error;
 
 /// Why a file could not be read whole.
 #[derive(Clone, Copy, Debug, Drop, Error)]
-pub enum ReadRefusal {
+pub enum ReadError {
     /// A call of the tray failed.
     #[error("the file could not be read")]
     ReadFault,
@@ -27,7 +27,7 @@ pub fn read_file<T: Tray>(
     tray: &mut T,
     name: &str,
     most: u32,
-) -> Result<Name, ReadRefusal>
+) -> Result<Name, ReadError>
     ensures keeps { KeepsTray (T.state tray.old) (T.state tray.new) }
     ensures asked { Asks (T.state tray.old).asked (T.state tray.new).asked (name.now ∷ []) }
     ensures taken { IfOk result (λ bytes. IsTrue (T.state tray.old).tells →
@@ -35,24 +35,24 @@ pub fn read_file<T: Tray>(
     ensures few { IsTrue (T.state tray.new).begun → IsTrue (T.state tray.old).tells →
         TakesFew name.now most (T.state tray.old) (T.state tray.new) }
     ensures well { OnOk result ((T.state tray.new).faults ≡ (T.state tray.old).faults) }
-    ensures memory { IsErrOf result ReadRefusal.OutOfMemory →
+    ensures memory { IsErrOf result ReadError.OutOfMemory →
         IsTrue (T.state tray.new).begun × ((T.state tray.new).faults ≡ (T.state tray.old).faults) }
-    ensures cause { IsErrOf result ReadRefusal.ReadFault →
+    ensures reason { IsErrOf result ReadError.ReadFault →
         Rose (T.state tray.old).faults (T.state tray.new).faults }
-    ensures once { IsErrOf result ReadRefusal.ReadFault →
+    ensures once { IsErrOf result ReadError.ReadFault →
         RoseOnce (T.state tray.old).faults (T.state tray.new).faults }
 {
     match tray.begin(name) {
         Ok(()) => match read_on(alloc, tray, most as usize) {
             Ok(bytes) => Ok(List::from_vec(bytes)),
-            Err(refusal) => Err(refusal),
+            Err(common_error) => Err(common_error),
         },
-        Err(Failed) => Err(ReadRefusal::ReadFault),
+        Err(DeviceError) => Err(ReadError::ReadFault),
     }
 }
 
 // Reads the rest of the open file.
-fn read_on<T: Tray>(alloc: Global, tray: &mut T, most: usize) -> Result<Vec<u8>, ReadRefusal>
+fn read_on<T: Tray>(alloc: Global, tray: &mut T, most: usize) -> Result<Vec<u8>, ReadError>
     requires { IsTrue (T.state tray.old).begun }
     ensures keeps { KeepsTray (T.state tray.old) (T.state tray.new) }
     ensures asked { (T.state tray.new).asked ≡ (T.state tray.old).asked }
@@ -64,11 +64,11 @@ fn read_on<T: Tray>(alloc: Global, tray: &mut T, most: usize) -> Result<Vec<u8>,
     ensures few { IsTrue (T.state tray.old).tells →
         TakesAtMost most (T.state tray.old).left (T.state tray.new) }
     ensures well { OnOk result ((T.state tray.new).faults ≡ (T.state tray.old).faults) }
-    ensures memory { IsErrOf result ReadRefusal.OutOfMemory →
+    ensures memory { IsErrOf result ReadError.OutOfMemory →
         (T.state tray.new).faults ≡ (T.state tray.old).faults }
-    ensures cause { IsErrOf result ReadRefusal.ReadFault →
+    ensures reason { IsErrOf result ReadError.ReadFault →
         Rose (T.state tray.old).faults (T.state tray.new).faults }
-    ensures once { IsErrOf result ReadRefusal.ReadFault →
+    ensures once { IsErrOf result ReadError.ReadFault →
         RoseOnce (T.state tray.old).faults (T.state tray.new).faults }
 {
     let mut bytes: Vec<u8> = Vec::new(alloc);
@@ -79,9 +79,9 @@ fn read_on<T: Tray>(alloc: Global, tray: &mut T, most: usize) -> Result<Vec<u8>,
             Ok(0) => return Ok(bytes),
             Ok(count) => match bytes.extend_from_slice(&piece[..count]) {
                 Ok(()) => {}
-                Err(_) => return Err(ReadRefusal::OutOfMemory),
+                Err(_) => return Err(ReadError::OutOfMemory),
             },
-            Err(Failed) => return Err(ReadRefusal::ReadFault),
+            Err(DeviceError) => return Err(ReadError::ReadFault),
         }
     }
     Ok(bytes)

@@ -2,31 +2,31 @@ ghost use Rattle.std.specs.Prelude.{IsTrue};
 ghost use Rattle.outside.specs.Writing.{WritesFile, WritesOn, FillsFile};
 
 use crate::rack::Rack;
-use crate::tray::Failed;
+use crate::tray::DeviceError;
 
 /// Writes a whole file of that name: creates it, writes all bytes and finishes it.
-pub fn write_file<R: Rack>(rack: &mut R, name: &str, bytes: &[u8]) -> Result<(), Failed>
+pub fn write_file<R: Rack>(rack: &mut R, name: &str, bytes: &[u8]) -> Result<(), DeviceError>
     ensures { WritesFile name.now bytes.now (R.state rack.old) (R.state rack.new) result }
 {
     match rack.create(name) {
         Ok(()) => fill(rack, bytes),
-        Err(Failed) => Err(Failed),
+        Err(DeviceError) => Err(DeviceError),
     }
 }
 
 // Writes all of the open file, and finishes it.
-fn fill<R: Rack>(rack: &mut R, bytes: &[u8]) -> Result<(), Failed>
+fn fill<R: Rack>(rack: &mut R, bytes: &[u8]) -> Result<(), DeviceError>
     requires { IsTrue (R.state rack.old).is_open }
     ensures { FillsFile bytes.now (R.state rack.old) (R.state rack.new) result }
 {
     match write_on(rack, bytes) {
         Ok(()) => rack.finish(),
-        Err(Failed) => Err(Failed),
+        Err(DeviceError) => Err(DeviceError),
     }
 }
 
 /// Writes a whole piece at the end of the open file.
-pub fn write_on<R: Rack>(rack: &mut R, piece: &[u8]) -> Result<(), Failed>
+pub fn write_on<R: Rack>(rack: &mut R, piece: &[u8]) -> Result<(), DeviceError>
     requires { IsTrue (R.state rack.old).is_open }
     ensures { WritesOn piece.now (R.state rack.old) (R.state rack.new) result }
 {
@@ -34,7 +34,7 @@ pub fn write_on<R: Rack>(rack: &mut R, piece: &[u8]) -> Result<(), Failed>
     while done < piece.len() {
         match rack.write(&piece[done..]) {
             Ok(count) => done += count,
-            Err(Failed) => return Err(Failed),
+            Err(DeviceError) => return Err(DeviceError),
         }
     }
     Ok(())

@@ -1,6 +1,6 @@
-pub mod Plates
+pub mod WrittenPlates
 pub mod Steps
-pub mod Told
+pub mod Reported
 mod Worked
 pub mod AssemblyLemmas
 pub mod JobLemmas

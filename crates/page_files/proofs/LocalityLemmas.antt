@@ -68,8 +68,8 @@ module _ (bounds : Bounds) (page : PageParts) (read : List PlateRead) (c k : ℕ
   deep : (plate_at read c).maxval ≡ maxval page
   deep = ap (λ (q : Plane). q.maxval) (sym plane_is) ∙ agree.deep
 
-  held : k < length (plate_at read c).samples
-  held =
+  stored : k < length (plate_at read c).samples
+  stored =
       let wide : (plate_at read c).width ≡ width page = ap (λ (q : Plane). q.width) (sym plane_is) ∙ agree.wide in
       let tall : (plate_at read c).height ≡ height page = ap (λ (q : Plane). q.height) (sym plane_is) ∙ agree.tall in
       let all : length (plate_at read c).samples ≡ samples page = plate.count ∙ ap (λ (n : ℕ). n * (plate_at read c).height) wide ∙ ap (λ (n : ℕ). width page * n) tall in
@@ -83,7 +83,7 @@ module _ (bounds : Bounds) (page : PageParts) (read : List PlateRead) (c k : ℕ
   tint_is =
       ap (λ (n : ℕ). get_or (plane_at page.planes c).tints n 0) place_is
       ∙ ap (λ (q : Plane). get_or q.tints k 0) plane_is
-      ∙ get_or-map (λ (s : ℕ). (plate_at read c).maxval - s) (plate_at read c).samples k 0 0 held
+      ∙ get_or-map (λ (s : ℕ). (plate_at read c).maxval - s) (plate_at read c).samples k 0 0 stored
       ∙ ap (λ (m : ℕ). m - sample_in (plate_at read c) k) deep
 
   written_is : sample_in (plate_after page c) k ≡ maxval page - new page (sample_at page k) c
@@ -96,7 +96,7 @@ module _ (bounds : Bounds) (page : PageParts) (read : List PlateRead) (c k : ℕ
   -- a sample whose tint is kept keeps its value
   kept_value : new page (sample_at page k) c ≡ tint page c (sample_at page k) → sample_in (plate_after page c) k ≡ sample_in (plate_at read c) k
   kept_value same =
-      let low : sample_in (plate_at read c) k ≤ maxval page = omega (arith, plate.samples k 0 held, deep) in
+      let low : sample_in (plate_at read c) k ≤ maxval page = omega (arith, plate.samples k 0 stored, deep) in
       written_is ∙ ap (λ (t : ℕ). maxval page - t) (same ∙ tint_is) ∙ omega (arith, low)
 
   changed : sample_in (plate_after page c) k ≢ sample_in (plate_at read c) k → (e : EdgeAt) × IsNear page (sample_at page k) e

@@ -4,7 +4,7 @@ use Rattle.std.specs.Prelude.{IfSome}
 use Rattle.std.proofs.lemmas.List.{get_or_append_left, get_or-map, length-map, take_more}
 use Rattle.std.proofs.lemmas.List.Elements.{All-append, All-cons}
 use Rattle.std.proofs.Math.Seq.{get_or-append_seam}
-use Rattle.outside.specs.Causes.{Asks, AsksPrefix}
+use Rattle.outside.specs.ErrorCases.{Asks, AsksPrefix}
 use Rattle.outside.specs.Tray.{TrayState, KeepsTray}
 use Rattle.outside.proofs.Names.{asks_then, asks_prefix}
 use Rattle.outside.proofs.Steps.{kept_tray, rose_before}
@@ -12,9 +12,9 @@ use Rattle.page_files.specs.Inputs.{Holds, AreFound, name_at}
 use Rattle.page_files.specs.Looks.{AnswersLooks, FileInHand, HasTaken, HoldsOne, IsLast, LooksAt, LooksThrough, Refuses, Sought, Takes}
 
 -- The files of a tray are what they were before.
-pub held_before : (a b : TrayState) (name : List ℕ) (Fact : List ℕ → Type 0) → KeepsTray a b → (IsTrue b.tells → Holds b.file name Fact) → IsTrue a.tells → Holds a.file name Fact
-held_before a b name Fact keeps held tells =
-    let there = held (keeps.tells ∙ tells) in
+pub stored_before : (a b : TrayState) (name : List ℕ) (Fact : List ℕ → Type 0) → KeepsTray a b → (IsTrue b.tells → Holds b.file name Fact) → IsTrue a.tells → Holds a.file name Fact
+stored_before a b name Fact keeps stored tells =
+    let there = stored (keeps.tells ∙ tells) in
     (there.0, ap (λ (files : List ℕ → Option (List ℕ)). files name) (sym keeps.file) ∙ there.1, there.2)
 
 -- The same of bytes that were taken.
@@ -60,15 +60,15 @@ found_more {V} Gives none files names k values value before here = record {
 }
 
 module _ {V E : Type 0} (sought : Sought V E) where
-  -- a refusal, seen from a tray before
-  pub refuses_before : (k : ℕ) (name : List ℕ) (a b c : TrayState) (refusal : E) → KeepsTray a b → b.faults ≡ a.faults → Refuses sought k name b c refusal → Refuses sought k name a c refusal
-  refuses_before k name a b c refusal keeps calm (Refuses.refused why is count held) = Refuses.refused why is (λ open_. count open_ ∙ calm) (held_before a b name (sought.because why) keeps held)
-  refuses_before k name a b c refusal keeps calm (Refuses.unread is rose taken) = Refuses.unread is (rose_before a.faults b.faults c.faults keeps.faults rose) (taken_before sought.sound a b c name keeps taken)
-  refuses_before k name a b c refusal keeps calm (Refuses.no_memory is count) = Refuses.no_memory is (count ∙ calm)
+  -- a error, seen from a tray before
+  pub refuses_before : (k : ℕ) (name : List ℕ) (a b c : TrayState) (error : E) → KeepsTray a b → b.faults ≡ a.faults → Refuses sought k name b c error → Refuses sought k name a c error
+  refuses_before k name a b c error keeps calm (Refuses.refused why is count stored) = Refuses.refused why is (λ open_. count open_ ∙ calm) (stored_before a b name (sought.because why) keeps stored)
+  refuses_before k name a b c error keeps calm (Refuses.unread is rose taken) = Refuses.unread is (rose_before a.faults b.faults c.faults keeps.faults rose) (taken_before sought.sound a b c name keeps taken)
+  refuses_before k name a b c error keeps calm (Refuses.no_memory is count) = Refuses.no_memory is (count ∙ calm)
 
   -- the names that were handed out, whatever was refused
-  pub refused_prefix : (names : List (List ℕ)) (a b : TrayState) (refusal : E) → AnswersLooks sought names a b (Err refusal) → AsksPrefix a.asked b.asked names
-  refused_prefix names a b refusal (k, stops, why) = asks_prefix a.asked b.asked (k + 1) names stops.asked
+  pub refused_prefix : (names : List (List ℕ)) (a b : TrayState) (error : E) → AnswersLooks sought names a b (Err error) → AsksPrefix a.asked b.asked names
+  refused_prefix names a b error (k, stops, why) = asks_prefix a.asked b.asked (k + 1) names stops.asked
 
   module _ (names : List (List ℕ)) where
     -- what stands after some files gave their values
@@ -109,19 +109,19 @@ module _ {V E : Type 0} (sought : Sought V E) where
       count = length-append values (value ∷ []) ∙ ap (λ (n : ℕ). n + 1) so_far.count;
       fine = All-append sought.fine values (value ∷ []) so_far.fine (All-cons sought.fine value [] one.answer.0 (λ j d none. absurd (omega arith)));
       calm = one.answer.1 ∙ so_far.calm;
-      found = λ tells. found_more sought.gives sought.none a.file names k values value (so_far.found tells) (subst (λ (n : List ℕ). Holds a.file n (λ bytes. sought.gives bytes value)) named (held_before a b name (λ bytes. sought.gives bytes value) so_far.keeps one.answer.2 tells));
+      found = λ tells. found_more sought.gives sought.none a.file names k values value (so_far.found tells) (subst (λ (n : List ℕ). Holds a.file n (λ bytes. sought.gives bytes value)) named (stored_before a b name (λ bytes. sought.gives bytes value) so_far.keeps one.answer.2 tells));
     }
 
     -- file k is refused
-    stopped : (refusal : E) → KeepsTray b c → Asks b.asked c.asked (name ∷ []) → Takes sought.few name b c → Refuses sought k name b c refusal → LooksThrough sought names a c (Err refusal)
-    stopped refusal keeps asked takes refuses = record {
+    stopped : (error : E) → KeepsTray b c → Asks b.asked c.asked (name ∷ []) → Takes sought.few name b c → Refuses sought k name b c error → LooksThrough sought names a c (Err error)
+    stopped error keeps asked takes refuses = record {
       keeps = kept_tray a b c so_far.keeps keeps;
       in_hand = in_hand_now (length names) asked takes;
-      answer = (k, record { known = within; asked = asked_more asked; found = values; before_it = so_far.found }, subst (λ (n : List ℕ). Refuses sought k n a c refusal) named (refuses_before k name a b c refusal so_far.keeps so_far.calm refuses));
+      answer = (k, record { known = within; asked = asked_more asked; found = values; before_it = so_far.found }, subst (λ (n : List ℕ). Refuses sought k n a c error) named (refuses_before k name a b c error so_far.keeps so_far.calm refuses));
     }
 
-    pub look_refused : (refusal : E) → LooksAt sought k name b c (Err refusal) → LooksThrough sought names a c (Err refusal)
-    look_refused refusal one = stopped refusal one.keeps one.asked one.takes one.answer
+    pub look_refused : (error : E) → LooksAt sought k name b c (Err error) → LooksThrough sought names a c (Err error)
+    look_refused error one = stopped error one.keeps one.asked one.takes one.answer
 
-    pub no_room : (value : V) (refusal : E) → refusal ≡ sought.memory → LooksAt sought k name b c (Ok value) → LooksThrough sought names a c (Err refusal)
-    no_room value refusal is one = stopped refusal one.keeps one.asked one.takes (Refuses.no_memory is one.answer.1)
+    pub no_workspace : (value : V) (error : E) → error ≡ sought.memory → LooksAt sought k name b c (Ok value) → LooksThrough sought names a c (Err error)
+    no_workspace value error is one = stopped error one.keeps one.asked one.takes (Refuses.no_memory is one.answer.1)

@@ -5,12 +5,12 @@ use Rattle.page_model.specs.declared.parts.Plane.{Plane}
 use Rattle.pgm_plates.specs.declared.plate.Plate.{Plate as PlateRead}
 use Rattle.pgm_plates.specs.declared.plate.PlateFault.{PlateFault}
 use Rattle.pgm_plates.specs.declared.plate.PlateFault.TheVariants.{BadMagic, BadHeader, SideRange, TooManySamples, MaxvalRange, SampleAboveMaxval, Truncated, TrailingBytes}
-use Rattle.pgm_plates.specs.declared.plate.PlateRefusal.TheVariants.{Fault}
+use Rattle.pgm_plates.specs.declared.plate.PlateError.TheVariants.{Fault}
 use Rattle.pgm_plates.specs.Laws.{FilePlate, FileFault}
 use Rattle.pgm_plates.specs.Planes.{plate_of}
 use Rattle.pgm_plates.specs.Reading.{ReadsPlate, KeepsCount}
-use Rattle.refusals.specs.declared.refusal.Refusal.{Refusal}
-use Rattle.refusals.specs.declared.refusal.Refusal.TheVariants.{Plate}
+use Rattle.common_errors.specs.declared.common.CommonError.{CommonError}
+use Rattle.common_errors.specs.declared.common.CommonError.TheVariants.{Plate}
 use Rattle.page_files.specs.Looks.{LooksAt, Refuses}
 use Rattle.page_files.specs.Steps.{IsPlaneOfPage, PassesNoFault, may_hide, plates_sought}
 
@@ -52,7 +52,7 @@ one_read law k name a b plane reads fine = record {
 }
 
 -- no fault of the tray is passed over where a plate is refused
-pub refusal_passes : (T : Type 0) (k : ℕ) (refusal : Refusal) (name : List ℕ) (a b : TrayState) → Refuses plates_sought k name a b refusal → PassesNoFault {T = T} a b (Err refusal)
-refusal_passes T k refusal name a b (Refuses.refused fault is count held) = subst (λ (r : Refusal). PassesNoFault {T = T} a b (Err r)) (sym is) (plate_count T k a b fault count)
-refusal_passes T k refusal name a b (Refuses.unread is rose taken) = subst (λ (r : Refusal). PassesNoFault {T = T} a b (Err r)) (sym is) tt
-refusal_passes T k refusal name a b (Refuses.no_memory is calm) = subst (λ (r : Refusal). PassesNoFault {T = T} a b (Err r)) (sym is) calm
+pub error_passes : (T : Type 0) (k : ℕ) (error : CommonError) (name : List ℕ) (a b : TrayState) → Refuses plates_sought k name a b error → PassesNoFault {T = T} a b (Err error)
+error_passes T k error name a b (Refuses.refused fault is count stored) = subst (λ (r : CommonError). PassesNoFault {T = T} a b (Err r)) (sym is) (plate_count T k a b fault count)
+error_passes T k error name a b (Refuses.unread is rose taken) = subst (λ (r : CommonError). PassesNoFault {T = T} a b (Err r)) (sym is) tt
+error_passes T k error name a b (Refuses.no_memory is calm) = subst (λ (r : CommonError). PassesNoFault {T = T} a b (Err r)) (sym is) calm

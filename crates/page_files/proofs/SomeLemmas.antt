@@ -9,8 +9,8 @@ use Rattle.page_files.specs.Assembly.{assembly, assembled, without_details}
 use Rattle.page_files.specs.Inputs.{Sources, Decoder, Holds, AreRead, PlateFails, Makes, name_at, no_plate}
 use Rattle.page_files.proofs.GatherLemmas.{NoneOther, none_other}
 use Rattle.page_files.proofs.LookLemmas.{found_more}
-use Rattle.refusals.specs.declared.refusal.Refusal.{Refusal}
-use Rattle.refusals.specs.declared.refusal.Refusal.TheVariants.{Usage, Job, NoDetails, Plate, Page, Read, Write, Memory}
+use Rattle.common_errors.specs.declared.common.CommonError.{CommonError}
+use Rattle.common_errors.specs.declared.common.CommonError.TheVariants.{Usage, Job, NoDetails, Plate, Page, Read, Write, Memory}
 use Rattle.page_files.specs.Verdicts.{Verdict, Targets, IsVerdict, IsFile, SomeVerdict, outcome}
 use Rattle.page_files.specs.Verdicts.Verdict.{Refused, Out}
 
@@ -38,7 +38,7 @@ module _ (decoder : Decoder) (plate_or_fault : (bytes : List ℕ) → All (λ b.
       | inr broken ↦ inr broken
     ]
 
-    refused : (refusal : Refusal) → NoneOther (Err refusal) → Makes decoder files source (Err refusal) → Stands
+    refused : (error : CommonError) → NoneOther (Err error) → Makes decoder files source (Err error) → Stands
     refused (NoDetails plate) other makes = (Refused (NoDetails plate), makes)
     refused (Page fault) other makes = (Refused (Page fault), makes)
     refused Memory other makes = absurd other
@@ -48,9 +48,9 @@ module _ (decoder : Decoder) (plate_or_fault : (bytes : List ℕ) → All (λ b.
     refused (Read file) other makes = absurd other
     refused (Write file) other makes = absurd other
 
-    made : (plates : List PlateRead) → AreRead decoder files source.inputs (length source.inputs) plates → (result : Result PageParts Refusal) → assembly job plates source.names ≡ result → Stands
+    made : (plates : List PlateRead) → AreRead decoder files source.inputs (length source.inputs) plates → (result : Result PageParts CommonError) → assembly job plates source.names ≡ result → Stands
     made plates read (Ok page) is = (Out (outcome target page), (page, (job, plates, record { job_read = job_read; plates_read = read }, is), refl))
-    made plates read (Err refusal) is = refused refusal (none_other (without_details job source.names) (assembled job plates source.names) refusal is) (job, plates, record { job_read = job_read; plates_read = read }, is)
+    made plates read (Err error) is = refused error (none_other (without_details job source.names) (assembled job plates source.names) error is) (job, plates, record { job_read = job_read; plates_read = read }, is)
 
     with_job : Stands
     with_job = elim (read_to (length source.inputs) (omega arith)) [

@@ -1,21 +1,21 @@
 -- Files that are written one after another.
 use Rattle.std.proofs.Common.{◌≡◌, ℕ, ◌+◌, ◌<◌, ◌≤◌, List, [], ◌∷◌, ◌++◌, length, get_or, Option, Some, None, Ok, Err, IsTrue, refl, sym, ap, ◌∙◌, subst, arith}
 use Rattle.std.proofs.lemmas.List.{append_assoc, map-append, length-append}
-use Rattle.outside.specs.Causes.{RoseOnce, Asks, AsksPrefix}
+use Rattle.outside.specs.ErrorCases.{RoseOnce, Asks, AsksPrefix}
 use Rattle.outside.specs.Rack.{RackState, KeepsRack, put}
 use Rattle.outside.specs.Writing.{WritesFile, BreaksFile}
 use Rattle.outside.proofs.Names.{asks_none, asks_then, asks_all, asks_before}
-use Rattle.outside.proofs.Steps.{kept_then, once_before, rose_before, told_on}
+use Rattle.outside.proofs.Steps.{kept_then, once_before, rose_before, reported_on}
 use Rattle.page_model.specs.declared.parts.Plane.{Plane}
 use Rattle.page_files.specs.Format.{encoded}
-use Rattle.refusals.specs.declared.refusal.Refusal.{Refusal}
-use Rattle.refusals.specs.declared.refusal.Refusal.TheVariants.{Write}
+use Rattle.common_errors.specs.declared.common.CommonError.{CommonError}
+use Rattle.common_errors.specs.declared.common.CommonError.TheVariants.{Write}
 use Rattle.page_files.specs.Files.{Written, plate_files, page_files, names_of, put_all}
 use Rattle.page_files.specs.Writing.{WritesAll, BreaksAt, FailsOnce, FinishesAll, WritesPage, WritesPlates}
 
-put_all_more : (files : List Written) (w : Written) (held : List ℕ → Option (List ℕ)) → put_all (files ++ w ∷ []) held ≡ put w.name w.bytes (put_all files held)
-put_all_more [] w held = refl
-put_all_more (f ∷ fs) w held = put_all_more fs w (put f.name f.bytes held)
+put_all_more : (files : List Written) (w : Written) (stored : List ℕ → Option (List ℕ)) → put_all (files ++ w ∷ []) stored ≡ put w.name w.bytes (put_all files stored)
+put_all_more [] w stored = refl
+put_all_more (f ∷ fs) w stored = put_all_more fs w (put f.name f.bytes stored)
 
 names_append : (files more : List Written) → names_of (files ++ more) ≡ names_of files ++ names_of more
 names_append files more = map-append (λ (f : Written). f.name) files more
@@ -26,13 +26,13 @@ wrote_none files a none = subst (λ (fs : List Written). WritesAll fs a a) (sym 
 
 -- files that are finished, and then others
 pub finished_then : (names more : List (List ℕ)) (a b c : RackState) → KeepsRack a b → FinishesAll names a b → FinishesAll more b c → FinishesAll (names ++ more) a c
-finished_then names more a b c keeps one two tells = asks_then a.finished b.finished c.finished names more (one tells) (two (told_on a b keeps tells))
+finished_then names more a b c keeps one two tells = asks_then a.finished b.finished c.finished names more (one tells) (two (reported_on a b keeps tells))
 
 -- one file more
 pub wrote_more : {T E : Type 0} (files : List Written) (w : Written) (a b c : RackState) (x : T) → KeepsRack a b → WritesAll files a b → WritesFile {T = T} {E = E} w.name w.bytes b c (Ok x) → WritesAll (files ++ w ∷ []) a c
 wrote_more files w a b c x keeps before now = record {
   asked = subst (λ (names : List (List ℕ)). Asks a.asked c.asked names) (sym (names_append files (w ∷ []))) (asks_then a.asked b.asked c.asked (names_of files) (w.name ∷ []) before.asked now.asked);
-  whole = λ tells. now.files (told_on a b keeps tells) ∙ ap (put w.name w.bytes) (before.whole tells) ∙ sym (put_all_more files w a.file);
+  whole = λ tells. now.files (reported_on a b keeps tells) ∙ ap (put w.name w.bytes) (before.whole tells) ∙ sym (put_all_more files w a.file);
   finished = subst (λ (names : List (List ℕ)). FinishesAll names a c) (sym (names_append files (w ∷ []))) (finished_then (names_of files) (w.name ∷ []) a b c keeps before.finished now.finished);
   shut = λ some. now.shut;
   well = now.well ∙ before.well;
@@ -48,8 +48,8 @@ breaks_next files w later a b c e keeps before now = record {
   place = refl;
   asked = asks_then a.asked b.asked c.asked (names_of files) (w.name ∷ []) before.asked now.asked;
   finished = λ tells. subst (λ o. Asks a.finished o (names_of files)) (sym now.unfinished) (before.finished tells);
-  part = λ tells. subst (λ (held : List ℕ → Option (List ℕ)). BreaksFile w.name w.bytes held c) (before.whole tells) (now.part (told_on a b keeps tells));
-  cause = rose_before a.faults b.faults c.faults keeps.faults now.cause;
+  part = λ tells. subst (λ (stored : List ℕ → Option (List ℕ)). BreaksFile w.name w.bytes stored c) (before.whole tells) (now.part (reported_on a b keeps tells));
+  reason = rose_before a.faults b.faults c.faults keeps.faults now.reason;
 }
 
 -- what breaks, breaks with more files after it
@@ -63,7 +63,7 @@ breaks_before files more k a b broke = record {
   asked = broke.asked;
   finished = broke.finished;
   part = broke.part;
-  cause = broke.cause;
+  reason = broke.reason;
 }
 
 pub breaks_below : (files : List Written) (k : ℕ) (a b : RackState) → BreaksAt files k a b → k < length files
@@ -113,20 +113,20 @@ plates_names (o ∷ os) [] same = let e : ⊥ = omega (arith, same) in absurd e
 plates_names (o ∷ os) (p ∷ ps) same = ap (λ (l : List (List ℕ)). o ∷ l) (plates_names os ps (omega (arith, same)))
 
 -- all plates are written
-pub plates_written : {T : Type 0} (outputs : List (List ℕ)) (planes : List Plane) (a b : RackState) (x : T) → length planes ≡ length outputs → KeepsRack a b → (IsTrue a.tells → b.told ≡ a.told) → WritesAll (plate_files outputs planes) a b → WritesPlates {T = T} outputs planes a b (Ok x)
-plates_written outputs planes a b x same keeps told wrote = record {
+pub plates_written : {T : Type 0} (outputs : List (List ℕ)) (planes : List Plane) (a b : RackState) (x : T) → length planes ≡ length outputs → KeepsRack a b → (IsTrue a.tells → b.reported ≡ a.reported) → WritesAll (plate_files outputs planes) a b → WritesPlates {T = T} outputs planes a b (Ok x)
+plates_written outputs planes a b x same keeps reported wrote = record {
   keeps = keeps;
-  told = told;
+  reported = reported;
   asked = subst (λ (names : List (List ℕ)). AsksPrefix a.asked b.asked names) (plates_names outputs planes same) (all_prefix (plate_files outputs planes) a b wrote);
   answer = wrote;
   once = tt;
 }
 
 -- a plate breaks
-pub plate_broken : {T : Type 0} (outputs : List (List ℕ)) (planes : List Plane) (k : ℕ) (a b : RackState) → length planes ≡ length outputs → KeepsRack a b → (IsTrue a.tells → b.told ≡ a.told) → RoseOnce a.faults b.faults → BreaksAt (plate_files outputs planes) k a b → WritesPlates {T = T} outputs planes a b (Err (Write (Some k)))
-plate_broken outputs planes k a b same keeps told once broke = record {
+pub plate_broken : {T : Type 0} (outputs : List (List ℕ)) (planes : List Plane) (k : ℕ) (a b : RackState) → length planes ≡ length outputs → KeepsRack a b → (IsTrue a.tells → b.reported ≡ a.reported) → RoseOnce a.faults b.faults → BreaksAt (plate_files outputs planes) k a b → WritesPlates {T = T} outputs planes a b (Err (Write (Some k)))
+plate_broken outputs planes k a b same keeps reported once broke = record {
   keeps = keeps;
-  told = told;
+  reported = reported;
   asked = subst (λ (names : List (List ℕ)). AsksPrefix a.asked b.asked names) (plates_names outputs planes same) (breaks_prefix (plate_files outputs planes) k a b broke);
   answer = (omega (arith, breaks_below (plate_files outputs planes) k a b broke, plates_length outputs planes (omega (arith, same)), same), broke);
   once = once;
@@ -144,7 +144,7 @@ page_written outputs planes report text a b c x y z same plates now =
     let all = wrote_more (plate_files outputs planes) (record { name = report; bytes = text }) a b c z plates.keeps plates.answer now in
     record {
       keeps = kept_then a b c plates.keeps now.keeps;
-      told = λ tells. now.told (told_on a b plates.keeps tells) ∙ plates.told tells;
+      reported = λ tells. now.reported (reported_on a b plates.keeps tells) ∙ plates.reported tells;
       asked = as_prefix outputs planes report text a c same (all_prefix (page_files outputs planes report text) a c all);
       answer = all;
       once = tt;
@@ -159,20 +159,20 @@ report_broken outputs planes report text a b c x e same plates now =
     subst (λ (k : ℕ). BreaksAt (page_files outputs planes report text) k a c) count (breaks_next files (record { name = report; bytes = text }) [] a b c e plates.keeps plates.answer now) in
     record {
       keeps = kept_then a b c plates.keeps now.keeps;
-      told = λ tells. now.told (told_on a b plates.keeps tells) ∙ plates.told tells;
+      reported = λ tells. now.reported (reported_on a b plates.keeps tells) ∙ plates.reported tells;
       asked = as_prefix outputs planes report text a c same (breaks_prefix (page_files outputs planes report text) (length outputs) a c broke);
       answer = broke;
       once = once_before a.faults b.faults c.faults plates.answer.well now.once;
     }
 
 -- a fault at a plate
-pub plates_broken : {T : Type 0} (outputs : List (List ℕ)) (planes : List Plane) (report text : List ℕ) (a b : RackState) (refusal : Refusal) → length planes ≡ length outputs → WritesPlates {T = T} outputs planes a b (Err refusal) → WritesPage {T = T} outputs planes report text a b (Err refusal)
+pub plates_broken : {T : Type 0} (outputs : List (List ℕ)) (planes : List Plane) (report text : List ℕ) (a b : RackState) (error : CommonError) → length planes ≡ length outputs → WritesPlates {T = T} outputs planes a b (Err error) → WritesPage {T = T} outputs planes report text a b (Err error)
 plates_broken outputs planes report text a b (Write (Some k)) same plates =
     let files = plate_files outputs planes in
     let broke = breaks_before files (record { name = report; bytes = text } ∷ []) k a b plates.answer.1 in
     record {
       keeps = plates.keeps;
-      told = plates.told;
+      reported = plates.reported;
       asked = as_prefix outputs planes report text a b same (breaks_prefix (page_files outputs planes report text) k a b broke);
       answer = (plates.answer.0, broke);
       once = plates.once;

@@ -12,8 +12,8 @@ use Rattle.pgm_plates.specs.declared.plate.PlateFault.{PlateFault}
 use Rattle.page_files.specs.Assembly.{assembly}
 use Rattle.page_files.specs.Inputs.{Sources, Decoder, Holds, AreRead, PlateFails, Makes, name_at, plate_at, no_plate}
 use Rattle.page_files.specs.Files.{Written}
-use Rattle.refusals.specs.declared.refusal.Refusal.{Refusal}
-use Rattle.refusals.specs.declared.refusal.Refusal.TheVariants.{Usage, Job, NoDetails, Plate, Page, Read, Write, Memory}
+use Rattle.common_errors.specs.declared.common.CommonError.{CommonError}
+use Rattle.common_errors.specs.declared.common.CommonError.TheVariants.{Usage, Job, NoDetails, Plate, Page, Read, Write, Memory}
 use Rattle.page_files.specs.Verdicts.{Verdict, Targets, IsVerdict, OneVerdict, outcome}
 use Rattle.page_files.specs.Verdicts.Verdict.{Refused, Out}
 
@@ -24,8 +24,8 @@ pub record PlateLaws (decoder : Decoder) : Type 0 where
   pub one_fault : (bytes : List ℕ) (one two : PlateFault) → decoder.fault bytes one → decoder.fault bytes two → one ≡ two
 
 -- A file has one list of bytes.
-held_both : (files : List ℕ → Option (List ℕ)) (name : List ℕ) (F G : List ℕ → Type 0) → Holds files name F → Holds files name G → (bytes : List ℕ) × F bytes × G bytes
-held_both files name F G one two =
+stored_both : (files : List ℕ → Option (List ℕ)) (name : List ℕ) (F G : List ℕ → Type 0) → Holds files name F → Holds files name G → (bytes : List ℕ) × F bytes × G bytes
+stored_both files name F G one two =
     let same : two.0 ≡ one.0 = same_Some two.0 one.0 (sym two.1 ∙ one.1) in
     (one.0, one.2, subst G same two.2)
 
@@ -39,31 +39,31 @@ module _ (decoder : Decoder) (laws : PlateLaws decoder) (files : List ℕ → Op
 
   one_job : (one two : JobRead) → JobIs one → JobIs two → one ≡ two
   one_job one two a b =
-      let both = held_both files source.job (λ bytes. decoder.job bytes ≡ Ok one) (λ bytes. decoder.job bytes ≡ Ok two) a b in
+      let both = stored_both files source.job (λ bytes. decoder.job bytes ≡ Ok one) (λ bytes. decoder.job bytes ≡ Ok two) a b in
       let same : ◌≡◌ {A = Result JobRead JobFault} (Ok one) (Ok two) = sym both.1 ∙ both.2 in
       cc
 
   one_job_fault : (one two : JobFault) → JobFails one → JobFails two → one ≡ two
   one_job_fault one two a b =
-      let both = held_both files source.job (λ bytes. decoder.job bytes ≡ Err one) (λ bytes. decoder.job bytes ≡ Err two) a b in
+      let both = stored_both files source.job (λ bytes. decoder.job bytes ≡ Err one) (λ bytes. decoder.job bytes ≡ Err two) a b in
       let same : ◌≡◌ {A = Result JobRead JobFault} (Err one) (Err two) = sym both.1 ∙ both.2 in
       cc
 
   job_or_fault : (job : JobRead) (fault : JobFault) → JobIs job → JobFails fault → ⊥
   job_or_fault job fault a b =
-      let both = held_both files source.job (λ bytes. decoder.job bytes ≡ Ok job) (λ bytes. decoder.job bytes ≡ Err fault) a b in
+      let both = stored_both files source.job (λ bytes. decoder.job bytes ≡ Ok job) (λ bytes. decoder.job bytes ≡ Err fault) a b in
       let same : ◌≡◌ {A = Result JobRead JobFault} (Ok job) (Err fault) = sym both.1 ∙ both.2 in
       absurd cc
 
   -- a plate that was read has no fault
   read_or_fault : (k n : ℕ) (plates : List PlateRead) (fault : PlateFault) → k < n → AreRead decoder files source.inputs n plates → Holds files (name_at source.inputs k) (λ bytes. decoder.fault bytes fault) → ⊥
   read_or_fault k n plates fault within read broken =
-      let both = held_both files (name_at source.inputs k) (λ bytes. decoder.plate bytes (plate_at plates k)) (λ bytes. decoder.fault bytes fault) (read.each k within) broken in
+      let both = stored_both files (name_at source.inputs k) (λ bytes. decoder.plate bytes (plate_at plates k)) (λ bytes. decoder.fault bytes fault) (read.each k within) broken in
       laws.not_both both.0 (plate_at plates k) fault both.1 both.2
 
   same_at : (n : ℕ) (p q : List PlateRead) → AreRead decoder files source.inputs n p → AreRead decoder files source.inputs n q → (k : ℕ) → k < n → plate_at p k ≡ plate_at q k
   same_at n p q a b k within =
-      let both = held_both files (name_at source.inputs k) (λ bytes. decoder.plate bytes (plate_at p k)) (λ bytes. decoder.plate bytes (plate_at q k)) (a.each k within) (b.each k within) in
+      let both = stored_both files (name_at source.inputs k) (λ bytes. decoder.plate bytes (plate_at p k)) (λ bytes. decoder.plate bytes (plate_at q k)) (a.each k within) (b.each k within) in
       laws.one_plate both.0 (plate_at p k) (plate_at q k) both.1 both.2
 
   one_list : (n : ℕ) (p q : List PlateRead) → AreRead decoder files source.inputs n p → AreRead decoder files source.inputs n q → p ≡ q
@@ -73,7 +73,7 @@ module _ (decoder : Decoder) (laws : PlateLaws decoder) (files : List ℕ → Op
       get_or_default p k d no_plate within ∙ same_at n p q a b k below ∙ sym (get_or_default q k d no_plate there))
 
   -- what the job and the plates make is one thing
-  one_making : (one two : Result PageParts Refusal) → Makes decoder files source one → Makes decoder files source two → one ≡ two
+  one_making : (one two : Result PageParts CommonError) → Makes decoder files source one → Makes decoder files source two → one ≡ two
   one_making one two a b =
       let job : a.0 ≡ b.0 = one_job a.0 b.0 a.2.job_read b.2.job_read in
       let plates : a.1 ≡ b.1 = one_list (length source.inputs) a.1 b.1 a.2.plates_read b.2.plates_read in
@@ -89,18 +89,18 @@ module _ (decoder : Decoder) (laws : PlateLaws decoder) (files : List ℕ → Op
     | inr more ↦ elim (cases_lt k j) [ inl less ↦ absurd (one_place k j g f b a less) | inr other ↦ omega arith ]
   ]
 
-  one_plate_fault : (j k : ℕ) (f g : PlateFault) → PlateFails decoder files source j f → PlateFails decoder files source k g → ◌≡◌ {A = Refusal} (Plate j f) (Plate k g)
+  one_plate_fault : (j k : ℕ) (f g : PlateFault) → PlateFails decoder files source j f → PlateFails decoder files source k g → ◌≡◌ {A = CommonError} (Plate j f) (Plate k g)
   one_plate_fault j k f g a b =
       let place : j ≡ k = same_place j k f g a b in
       let there = subst (λ (n : ℕ). Holds files (name_at source.inputs n) (λ bytes. decoder.fault bytes f)) place a.broken in
-      let both = held_both files (name_at source.inputs k) (λ bytes. decoder.fault bytes f) (λ bytes. decoder.fault bytes g) there b.broken in
+      let both = stored_both files (name_at source.inputs k) (λ bytes. decoder.fault bytes f) (λ bytes. decoder.fault bytes g) there b.broken in
       let fault : f ≡ g = laws.one_fault both.0 f g both.1 both.2 in
       ap (λ (n : ℕ). Plate n f) place ∙ ap (λ (h : PlateFault). Plate k h) fault
 
-  made_or_fault : (made : Result PageParts Refusal) (k : ℕ) (fault : PlateFault) → Makes decoder files source made → PlateFails decoder files source k fault → ⊥
+  made_or_fault : (made : Result PageParts CommonError) (k : ℕ) (fault : PlateFault) → Makes decoder files source made → PlateFails decoder files source k fault → ⊥
   made_or_fault made k fault a b = read_or_fault k (length source.inputs) a.1 fault b.known a.2.plates_read b.broken
 
-  made_or_job : (made : Result PageParts Refusal) (fault : JobFault) → Makes decoder files source made → JobFails fault → ⊥
+  made_or_job : (made : Result PageParts CommonError) (fault : JobFault) → Makes decoder files source made → JobFails fault → ⊥
   made_or_job made fault a b = job_or_fault a.0 fault a.2.job_read b
 
   -- A verdict is a fault of the job, of a plate, or what is made.
@@ -122,12 +122,12 @@ module _ (decoder : Decoder) (laws : PlateLaws decoder) (files : List ℕ → Op
   view (Refused Memory) is = absurd is
   view (Out written) is = of_out is.0 (ap (λ (w : List Written). Out w) is.2) is.1
 
-  made_same : (one two : Result PageParts Refusal) (v w : Verdict) (verdict : Result PageParts Refusal → Verdict) → v ≡ verdict one → w ≡ verdict two → Makes decoder files source one → Makes decoder files source two → v ≡ w
+  made_same : (one two : Result PageParts CommonError) (v w : Verdict) (verdict : Result PageParts CommonError → Verdict) → v ≡ verdict one → w ≡ verdict two → Makes decoder files source one → Makes decoder files source two → v ≡ w
   made_same one two v w verdict is also a b = is ∙ ap verdict (one_making one two a b) ∙ sym also
 
-  abbrev verdict_on : Result PageParts Refusal → Verdict
+  abbrev verdict_on : Result PageParts CommonError → Verdict
   verdict_on (Ok page) = Out (outcome target page)
-  verdict_on (Err refusal) = Refused refusal
+  verdict_on (Err error) = Refused error
 
   same : (v w : Verdict) → View v → View w → v ≡ w
   same v w (of_job f is a) (of_job g also b) = is ∙ ap (λ (h : JobFault). Refused (Job h)) (one_job_fault f g a b) ∙ sym also
@@ -136,7 +136,7 @@ module _ (decoder : Decoder) (laws : PlateLaws decoder) (files : List ℕ → Op
   same v w (of_job f is a) (of_page g also b) = absurd (made_or_job (Err (Page g)) f b a)
   same v w (of_job f is a) (of_out page also b) = absurd (made_or_job (Ok page) f b a)
   same v w (of_plate j f is a) (of_job g also b) = absurd (job_or_fault a.job g a.job_read b)
-  same v w (of_plate j f is a) (of_plate k g also b) = is ∙ ap (λ (r : Refusal). Refused r) (one_plate_fault j k f g a b) ∙ sym also
+  same v w (of_plate j f is a) (of_plate k g also b) = is ∙ ap (λ (r : CommonError). Refused r) (one_plate_fault j k f g a b) ∙ sym also
   same v w (of_plate j f is a) (of_details k also b) = absurd (made_or_fault (Err (NoDetails k)) j f b a)
   same v w (of_plate j f is a) (of_page g also b) = absurd (made_or_fault (Err (Page g)) j f b a)
   same v w (of_plate j f is a) (of_out page also b) = absurd (made_or_fault (Ok page) j f b a)

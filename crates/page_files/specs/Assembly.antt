@@ -16,8 +16,8 @@ use Rattle.page_model.specs.Faults.{page_fault}
 use Rattle.pgm_plates.specs.declared.plate.Plate.{Plate}
 use Rattle.pgm_plates.specs.Planes.{plane_of}
 use Rattle.pgm_plates.specs.Plates.{IsPlate}
-use Rattle.refusals.specs.declared.refusal.Refusal.{Refusal}
-use Rattle.refusals.specs.declared.refusal.Refusal.TheVariants.{NoDetails, Page}
+use Rattle.common_errors.specs.declared.common.CommonError.{CommonError}
+use Rattle.common_errors.specs.declared.common.CommonError.TheVariants.{NoDetails, Page}
 use Rattle.page_model.specs.Limits.{most_plates, scale}
 
 -- the details of a colorant's name, if the job has any
@@ -65,23 +65,23 @@ without_details job names =
     if some_enabled job then position (λ name. is_none (detail_of job.details name)) names else None
 
 -- the page of these parts, or its fault
-abbrev pub faulted : PageParts → Option PageFault → Result PageParts Refusal
+abbrev pub faulted : PageParts → Option PageFault → Result PageParts CommonError
 faulted parts None = Ok parts
 faulted parts (Some fault) = Err (Page fault)
 
 -- the page of these parts, or the plate that lacks its details
-abbrev pub detailed : Option ℕ → PageParts → Result PageParts Refusal
+abbrev pub detailed : Option ℕ → PageParts → Result PageParts CommonError
 detailed None parts = faulted parts (page_fault parts)
 detailed (Some plate) parts = Err (NoDetails plate)
 
 -- the page of planes, or why there is none: a plane without details, and then the first fault of
 -- the parts
-abbrev pub assembly_of_planes : Job → List Plane → List (List ℕ) → Result PageParts Refusal
+abbrev pub assembly_of_planes : Job → List Plane → List (List ℕ) → Result PageParts CommonError
 assembly_of_planes job planes names =
     detailed (without_details job names) (parts_of_planes job planes names)
 
 -- and of plates
-abbrev pub assembly : Job → List Plate → List (List ℕ) → Result PageParts Refusal
+abbrev pub assembly : Job → List Plate → List (List ℕ) → Result PageParts CommonError
 assembly job plates names = assembly_of_planes job (map plane_of plates) names
 
 -- as many names as planes, and each plane in range

@@ -9,7 +9,7 @@ use Rattle.pgm_plates.specs.declared.plate.PlateFault.{PlateFault}
 use Rattle.pgm_plates.specs.Faults.{IsFault}
 use Rattle.pgm_plates.specs.Plates.{IsPlateFile}
 use Rattle.ps_tokens.specs.declared.faults.JobFault.{JobFault}
-use Rattle.refusals.specs.declared.refusal.Refusal.{Refusal}
+use Rattle.common_errors.specs.declared.common.CommonError.{CommonError}
 use Rattle.page_files.specs.Assembly.{assembly}
 
 -- the job's file, and for each plate its colorant's name and its file
@@ -81,8 +81,8 @@ pub record PlateFails (decoder : Decoder) (files : List ℕ → Option (List ℕ
   pub known : plate < length source.inputs
   pub broken : Holds files (name_at source.inputs plate) (λ bytes. decoder.fault bytes fault)
 
--- what the job and the plates make: a page, or its refusal
-abbrev pub Makes : Decoder → (List ℕ → Option (List ℕ)) → Sources → Result PageParts Refusal
+-- what the job and the plates make: a page, or its error
+abbrev pub Makes : Decoder → (List ℕ → Option (List ℕ)) → Sources → Result PageParts CommonError
     → Type 0
 Makes decoder files source made = (job : Job) × (plates : List Plate)
     × Inputs decoder files source job plates × (assembly job plates source.names ≡ made)

@@ -1,7 +1,7 @@
 -- What it means to look into files one after another, up to the first that is refused.
 use Rattle.std.specs.Prelude.{◌≡◌, ◌⊎◌, ℕ, ◌<◌, ◌+◌, Bool, false, IsTrue, List, [], ◌∷◌, ◌++◌}
 use Rattle.std.specs.Prelude.{length, take, All, Some, IfSome, Result, Ok, Err}
-use Rattle.outside.specs.Causes.{Rose, Asks}
+use Rattle.outside.specs.ErrorCases.{Rose, Asks}
 use Rattle.outside.specs.Tray.{TrayState, KeepsTray}
 use Rattle.page_files.specs.Inputs.{Holds, AreFound, name_at}
 
@@ -22,7 +22,7 @@ pub record Sought (V E : Type 0) : Type 1 where
   pub sound : List ℕ → Type 0
   -- no more bytes than these are owed
   pub few : List ℕ → Type 0
-  -- how the refusals of file k are reported
+  -- how the errors of file k are reported
   pub refused : ℕ → Reason → E
   pub unread : ℕ → E
   pub memory : E
@@ -57,22 +57,22 @@ HoldsOne Few names count before after =
 -- File k is refused: for its bytes, where these are known, for a read that failed, or for lack of
 -- memory. But where it may hide one, no fault of the tray is passed over.
 pub data Refuses {V E : Type 0} (sought : Sought V E) (k : ℕ) (name : List ℕ)
-    (before after : TrayState) (refusal : E) : Type 0 where
-  refused : (why : sought.Reason) → refusal ≡ sought.refused k why
+    (before after : TrayState) (error : E) : Type 0 where
+  refused : (why : sought.Reason) → error ≡ sought.refused k why
       → (sought.may_hide why ≡ false → after.faults ≡ before.faults)
       → (IsTrue before.tells → Holds before.file name (sought.because why))
-      → Refuses sought k name before after refusal
-  unread : refusal ≡ sought.unread k → Rose before.faults after.faults
-      → HasTaken sought.sound name before after → Refuses sought k name before after refusal
-  no_memory : refusal ≡ sought.memory → after.faults ≡ before.faults
-      → Refuses sought k name before after refusal
+      → Refuses sought k name before after error
+  unread : error ≡ sought.unread k → Rose before.faults after.faults
+      → HasTaken sought.sound name before after → Refuses sought k name before after error
+  no_memory : error ≡ sought.memory → after.faults ≡ before.faults
+      → Refuses sought k name before after error
 
 abbrev pub AnswersLook : {V E : Type 0} → Sought V E → ℕ → List ℕ → TrayState → TrayState
     → Result V E → Type 0
 AnswersLook sought k name before after (Ok value) = sought.fine value
     × (after.faults ≡ before.faults)
     × (IsTrue before.tells → Holds before.file name (λ bytes. sought.gives bytes value))
-AnswersLook sought k name before after (Err refusal) = Refuses sought k name before after refusal
+AnswersLook sought k name before after (Err error) = Refuses sought k name before after error
 
 -- It is looked into the file of that name, which is file k.
 pub record LooksAt {V E : Type 0} (sought : Sought V E) (k : ℕ) (name : List ℕ)
@@ -97,9 +97,9 @@ AnswersLooks sought names before after (Ok values) = Asks before.asked after.ask
     × (length values ≡ length names) × All sought.fine values × (after.faults ≡ before.faults)
     × (IsTrue before.tells
     → AreFound sought.gives sought.none before.file names (length names) values)
-AnswersLooks sought names before after (Err refusal) = (k : ℕ)
+AnswersLooks sought names before after (Err error) = (k : ℕ)
     × StopsAt sought names k before after
-    × Refuses sought k (name_at names k) before after refusal
+    × Refuses sought k (name_at names k) before after error
 
 -- It is looked into the files of these names in order, up to the first that is refused.
 pub record LooksThrough {V E : Type 0} (sought : Sought V E) (names : List (List ℕ))

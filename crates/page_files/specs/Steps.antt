@@ -1,7 +1,7 @@
 -- The steps in which a page is read.
 use Rattle.std.specs.Prelude.{◌≡◌, ℕ, ◌+◌, ◌*◌, ◌≤◌, Bool, true, false, IsTrue, List, [], ◌∷◌}
 use Rattle.std.specs.Prelude.{Some, None, Result, Ok, Err}
-use Rattle.outside.specs.Causes.{Rose, Asks}
+use Rattle.outside.specs.ErrorCases.{Rose, Asks}
 use Rattle.outside.specs.Reading.{TakesFew}
 use Rattle.outside.specs.Tray.{TrayState, KeepsTray}
 use Rattle.job_reader.specs.declared.job.Job.{Job}
@@ -17,11 +17,11 @@ use Rattle.pgm_plates.specs.Faults.{IsFault}
 use Rattle.pgm_plates.specs.Planes.{plate_of}
 use Rattle.pgm_plates.specs.Plates.{IsPlateFile}
 use Rattle.pgm_plates.specs.Reading.{AreFew, IsTruncated}
-use Rattle.ps_tokens.specs.declared.faults.JobRefusal.{JobRefusal as JobRefusals}
-use Rattle.ps_tokens.specs.declared.faults.JobRefusal.TheVariants.{Fault, OutOfMemory}
-use Rattle.refusals.specs.declared.refusal.Refusal.{Refusal}
-use Rattle.refusals.specs.declared.refusal.Refusal.TheVariants.{Job as JobRefusal, Plate, Read}
-use Rattle.refusals.specs.declared.refusal.Refusal.TheVariants.{Memory}
+use Rattle.ps_tokens.specs.declared.faults.JobError.{JobError as JobErrors}
+use Rattle.ps_tokens.specs.declared.faults.JobError.TheVariants.{Fault, OutOfMemory}
+use Rattle.common_errors.specs.declared.common.CommonError.{CommonError}
+use Rattle.common_errors.specs.declared.common.CommonError.TheVariants.{Job as JobError, Plate, Read}
+use Rattle.common_errors.specs.declared.common.CommonError.TheVariants.{Memory}
 use Rattle.page_files.specs.Inputs.{Holds}
 use Rattle.page_files.specs.Looks.{FileInHand, HasTaken, LooksThrough, Sought, Takes}
 use Rattle.ps_tokens.specs.Limits.{longest_job}
@@ -41,16 +41,16 @@ TakesPlate = Takes AreFew
 
 -- No fault of the tray is passed over: the count stays at each answer but a read fault, and but
 -- a sample above the maxval, which may be among the bytes that came before a failed read.
-abbrev pub PassesNoFault : {T : Type 0} → TrayState → TrayState → Result T Refusal → Type 0
+abbrev pub PassesNoFault : {T : Type 0} → TrayState → TrayState → Result T CommonError → Type 0
 PassesNoFault before after (Err (Read file)) = Unit {0}
 PassesNoFault before after (Err (Plate plate (SampleAboveMaxval at))) = Unit {0}
 PassesNoFault before after other = after.faults ≡ before.faults
 
 -- what the answer says of the job's bytes; a job that is read is in range
-abbrev pub AnswersJob : List ℕ → TrayState → TrayState → Result Job Refusal → Type 0
+abbrev pub AnswersJob : List ℕ → TrayState → TrayState → Result Job CommonError → Type 0
 AnswersJob name before after (Ok job) =
     IsJob job × (IsTrue before.tells → Holds before.file name (λ bytes. job_of bytes ≡ Ok job))
-AnswersJob name before after (Err (JobRefusal fault)) =
+AnswersJob name before after (Err (JobError fault)) =
     IsTrue before.tells → Holds before.file name (λ bytes. job_of bytes ≡ Err fault)
 AnswersJob name before after (Err (Read None)) = Rose before.faults after.faults
 AnswersJob name before after (Err Memory) = Unit {0}
@@ -58,7 +58,7 @@ AnswersJob name before after (Err other) = ⊥
 
 -- The job of that name is read.
 pub record ReadsJob (name : List ℕ) (before after : TrayState)
-    (result : Result Job Refusal) : Type 0 where
+    (result : Result Job CommonError) : Type 0 where
   pub keeps : KeepsTray before after
   pub asked : Asks before.asked after.asked (name ∷ [])
   pub few : TakesJob name before after
@@ -84,7 +84,7 @@ abbrev pub IsPlaneOfPage : Plane → Type 0
 IsPlaneOfPage plane = IsPlane plane × (plane.width * plane.height ≤ most_samples)
 
 -- the plate of each file, as its plane, or its first fault
-abbrev pub plates_sought : Sought Plane Refusal
+abbrev pub plates_sought : Sought Plane CommonError
 plates_sought = record {
   gives = λ bytes plane. IsPlateFile bytes (plate_of plane);
   fine = IsPlaneOfPage;
@@ -104,12 +104,12 @@ abbrev pub PlateInHand : List (List ℕ) → TrayState → TrayState → Type 0
 PlateInHand = FileInHand AreFew
 
 -- The plates of these files are read as planes, up to the first that is refused.
-abbrev pub ReadsPlates : List (List ℕ) → TrayState → TrayState → Result (List Plane) Refusal
+abbrev pub ReadsPlates : List (List ℕ) → TrayState → TrayState → Result (List Plane) CommonError
     → Type 0
 ReadsPlates = LooksThrough plates_sought
 
--- a job that was read, or its refusal as the program tells it
-abbrev pub Judges : Result Job JobRefusals → Result Job Refusal → Type 0
+-- a job that was read, or its error as the program tells it
+abbrev pub Judges : Result Job JobErrors → Result Job CommonError → Type 0
 Judges (Ok job) result = result ≡ Ok job
-Judges (Err (Fault fault)) result = result ≡ Err (JobRefusal fault)
+Judges (Err (Fault fault)) result = result ≡ Err (JobError fault)
 Judges (Err OutOfMemory) result = result ≡ Err Memory

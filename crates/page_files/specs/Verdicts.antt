@@ -5,14 +5,14 @@ use Rattle.page_model.specs.Counts.{page_counts}
 use Rattle.page_model.specs.Tints.{trapped_planes}
 use Rattle.page_files.specs.Inputs.{Sources, Decoder, Holds, PlateFails, Makes, name_at}
 use Rattle.page_files.specs.Files.{Written, page_files}
-use Rattle.refusals.specs.declared.refusal.Refusal.{Refusal}
-use Rattle.refusals.specs.declared.refusal.Refusal.TheVariants.{Job, NoDetails, Plate, Page}
+use Rattle.common_errors.specs.declared.common.CommonError.{CommonError}
+use Rattle.common_errors.specs.declared.common.CommonError.TheVariants.{Job, NoDetails, Plate, Page}
 use Rattle.trap_report.specs.Report.{report_of}
 
 -- what is to come
 pub data Verdict : Type 0 where
   -- the job, a plate or the page is refused
-  Refused : Refusal → Verdict
+  Refused : CommonError → Verdict
   -- these files are to be written, in this order
   Out : List Written → Verdict
 

@@ -1,12 +1,12 @@
 -- What it means to write files one after another, and all files of a page.
 use Rattle.std.specs.Prelude.{◌≡◌, ℕ, ◌<◌, IsTrue, IsFalse, List, [], ◌∷◌, ◌++◌, length, Option}
 use Rattle.std.specs.Prelude.{Some, None, Result, Ok, Err}
-use Rattle.outside.specs.Causes.{Rose, RoseOnce, Asks, AsksPrefix}
+use Rattle.outside.specs.ErrorCases.{Rose, RoseOnce, Asks, AsksPrefix}
 use Rattle.outside.specs.Rack.{RackState, KeepsRack}
 use Rattle.outside.specs.Writing.{BreaksFile}
 use Rattle.page_model.specs.declared.parts.Plane.{Plane}
-use Rattle.refusals.specs.declared.refusal.Refusal.{Refusal}
-use Rattle.refusals.specs.declared.refusal.Refusal.TheVariants.{Write}
+use Rattle.common_errors.specs.declared.common.CommonError.{CommonError}
+use Rattle.common_errors.specs.declared.common.CommonError.TheVariants.{Write}
 use Rattle.page_files.specs.Files.{Written, plate_files, page_files, names_of, put_all}
 
 -- The files of these names, and no others, are finished, one after another.
@@ -38,7 +38,7 @@ pub record BreaksAt (files : List Written) (k : ℕ) (before after : RackState) 
   pub finished : FinishesAll (names_of earlier) before after
   pub part : IsTrue before.tells
       → BreaksFile file.name file.bytes (put_all earlier before.file) after
-  pub cause : Rose before.faults after.faults
+  pub reason : Rose before.faults after.faults
 
 -- Plate k of `plates` plates breaks; or, without a number, the report after them.
 abbrev pub Breaks : ℕ → List Written → Option ℕ → RackState → RackState → Type 0
@@ -47,21 +47,21 @@ Breaks plates files None before after = BreaksAt files plates before after
 
 -- by the answer, where that number of the files are plates and the last is the report
 abbrev pub AnswersWriting : {T : Type 0} → ℕ → List Written → RackState → RackState
-    → Result T Refusal → Type 0
+    → Result T CommonError → Type 0
 AnswersWriting plates files before after (Ok x) = WritesAll files before after
 AnswersWriting plates files before after (Err (Write file)) = Breaks plates files file before after
 AnswersWriting plates files before after (Err other) = ⊥
 
 -- A failed write is one failed call, and no more: the count of faults rose by one.
-abbrev pub FailsOnce : {T : Type 0} → RackState → RackState → Result T Refusal → Type 0
+abbrev pub FailsOnce : {T : Type 0} → RackState → RackState → Result T CommonError → Type 0
 FailsOnce before after (Err (Write file)) = RoseOnce before.faults after.faults
 FailsOnce before after other = Unit {0}
 
 -- The plates and then the report are written. No text is printed.
 pub record WritesPage {T : Type 0} (outputs : List (List ℕ)) (planes : List Plane)
-    (report text : List ℕ) (before after : RackState) (result : Result T Refusal) : Type 0 where
+    (report text : List ℕ) (before after : RackState) (result : Result T CommonError) : Type 0 where
   pub keeps : KeepsRack before after
-  pub told : IsTrue before.tells → after.told ≡ before.told
+  pub reported : IsTrue before.tells → after.reported ≡ before.reported
   pub asked : AsksPrefix before.asked after.asked (outputs ++ report ∷ [])
   pub answer : AnswersWriting (length outputs)
       (page_files outputs planes report text) before after result
@@ -69,7 +69,7 @@ pub record WritesPage {T : Type 0} (outputs : List (List ℕ)) (planes : List Pl
 
 -- by the answer, where all files are plates, in that number
 abbrev pub AnswersPlates : {T : Type 0} → ℕ → List Written → RackState → RackState
-    → Result T Refusal → Type 0
+    → Result T CommonError → Type 0
 AnswersPlates plates files before after (Ok x) = WritesAll files before after
 AnswersPlates plates files before after (Err (Write (Some k))) =
     (k < plates) × BreaksAt files k before after
@@ -77,9 +77,9 @@ AnswersPlates plates files before after (Err other) = ⊥
 
 -- The plates are written. No text is printed.
 pub record WritesPlates {T : Type 0} (outputs : List (List ℕ)) (planes : List Plane)
-    (before after : RackState) (result : Result T Refusal) : Type 0 where
+    (before after : RackState) (result : Result T CommonError) : Type 0 where
   pub keeps : KeepsRack before after
-  pub told : IsTrue before.tells → after.told ≡ before.told
+  pub reported : IsTrue before.tells → after.reported ≡ before.reported
   pub asked : AsksPrefix before.asked after.asked outputs
   pub answer : AnswersPlates (length outputs) (plate_files outputs planes) before after result
   pub once : FailsOnce before after result

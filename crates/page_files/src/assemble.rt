@@ -7,6 +7,7 @@ ghost use Rattle.job_reader.specs.InRange.{IsJob};
 ghost use Rattle.page_files.specs.Assembly.{CanAssemble, CanAssemblePlanes, assembly, assembly_of_planes, parts_of_planes, without_details as plate_without, detail_of as detail_spec, ink_of as ink_spec, zone_for};
 ghost use Rattle.page_model.specs.Limits.{most_plates};
 
+use common_errors::common::CommonError;
 use job_reader::job::Job;
 use lists::list::List;
 use lists::names::copy_name;
@@ -17,7 +18,6 @@ use page_model::parts::{
     DetailList, Ink, InkKind, InkList, Name, NameList, OutOfMemory, PageParts, PlaneList, ZoneList,
 };
 use pgm_plates::plate::Plate;
-use refusals::refusal::Refusal;
 use std::alloc::Global;
 
 /// Plates, in the order of the words.
@@ -34,16 +34,16 @@ pub fn assemble(
     job: Job,
     plates: PlateList,
     names: &NameList,
-) -> Result<Page, Refusal>
+) -> Result<Page, CommonError>
     requires job { IsJob job }
     requires plates { CanAssemble plates names.now }
     ensures { let made = assembly job plates names.now in
         MatchResult result (λ page. made ≡ Ok page)
-        (λ refusal. (refusal ≡ Refusal.Memory) ⊎ (made ≡ Err refusal)) }
+        (λ error. (error ≡ CommonError.Memory) ⊎ (made ≡ Err error)) }
 {
     match planes_of(alloc, plates) {
         Ok(planes) => assemble_planes(alloc, job, planes, names),
-        Err(OutOfMemory) => Err(Refusal::Memory),
+        Err(OutOfMemory) => Err(CommonError::Memory),
     }
 }
 
@@ -53,22 +53,22 @@ pub fn assemble_planes(
     job: Job,
     planes: PlaneList,
     names: &NameList,
-) -> Result<Page, Refusal>
+) -> Result<Page, CommonError>
     requires job { IsJob job }
     requires planes { CanAssemblePlanes planes names.now }
     ensures { let made = assembly_of_planes job planes names.now in
         MatchResult result (λ page. made ≡ Ok page)
-        (λ refusal. (refusal ≡ Refusal.Memory) ⊎ (made ≡ Err refusal)) }
+        (λ error. (error ≡ CommonError.Memory) ⊎ (made ≡ Err error)) }
 {
     if let Some(plate) = without_details(&job, names) {
-        return Err(Refusal::NoDetails(plate));
+        return Err(CommonError::NoDetails(plate));
     }
     match parts_of(alloc, job, planes, names) {
         Ok(parts) => match Page::new(parts) {
             Ok(page) => Ok(page),
-            Err((fault, _parts)) => Err(Refusal::Page(fault)),
+            Err((fault, _parts)) => Err(CommonError::Page(fault)),
         },
-        Err(OutOfMemory) => Err(Refusal::Memory),
+        Err(OutOfMemory) => Err(CommonError::Memory),
     }
 }
 

@@ -8,13 +8,13 @@ ghost use Rattle.page_model.specs.Limits.{most_maxval};
 ghost use Rattle.page_files.specs.Format.{encoded};
 
 use outside::rack::Rack;
-use outside::tray::Failed;
+use outside::tray::DeviceError;
 use page_model::parts::Plane;
 use pgm_plates::writing::write_plane;
 
 /// Writes a plane of any sides to the file `name`, as a plate. It allocates nothing. Where a call of the rack fails, a
 /// prefix of the bytes stands under the name, or, where the file could not be created, everything is as it was.
-pub fn write_encoded<R: Rack>(rack: &mut R, name: &str, plane: &Plane) -> Result<(), Failed>
+pub fn write_encoded<R: Rack>(rack: &mut R, name: &str, plane: &Plane) -> Result<(), DeviceError>
     requires maxval { plane.now.maxval ≤ most_maxval }
     requires fits { All (λ t. t ≤ plane.now.maxval) plane.now.tints }
     ensures { let bytes = encoded plane.now in

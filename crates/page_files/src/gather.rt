@@ -7,19 +7,19 @@ ghost use Rattle.page_model.specs.Limits.{most_plates};
 use crate::assemble::assemble_planes;
 use crate::job::read_job_file;
 use crate::plates::read_plates;
+use common_errors::common::CommonError;
 use job_reader::job::Job;
 use lists::names::NameList;
 use outside::tray::Tray;
 use page_model::page::Page;
 use pgm_plates::laws::plane_turns_back;
-use refusals::refusal::Refusal;
 use std::alloc::Global;
 use std::convert::AsStr;
 
 /// Reads the job of that name and then each plate in the order of its file, to their ends, and makes a page of them.
 /// The names are those of the plates' colorants.
 ///
-/// It stops at the first refusal: a read that fails, the job's fault, a plate's fault, a plate without details, a fault
+/// It stops at the first error: a read that fails, the job's fault, a plate's fault, a plate without details, a fault
 /// of the page, or out of memory. No file is begun after the one that is refused.
 pub fn gather<T: Tray, S: AsStr>(
     alloc: Global,
@@ -27,7 +27,7 @@ pub fn gather<T: Tray, S: AsStr>(
     job: &str,
     names: &NameList,
     inputs: &[S],
-) -> Result<Page, Refusal>
+) -> Result<Page, CommonError>
     requires some { 1 ≤ length inputs.now }
     requires few { length inputs.now ≤ most_plates }
     requires named { length names.now ≡ length inputs.now }
@@ -36,7 +36,7 @@ pub fn gather<T: Tray, S: AsStr>(
 {
     match read_job_file(alloc, tray, job) {
         Ok(read) => gather_plates(alloc, tray, read, names, inputs),
-        Err(refusal) => Err(refusal),
+        Err(error) => Err(error),
     }
 }
 
@@ -47,7 +47,7 @@ fn gather_plates<T: Tray, S: AsStr>(
     job: Job,
     names: &NameList,
     inputs: &[S],
-) -> Result<Page, Refusal>
+) -> Result<Page, CommonError>
     requires some { 1 ≤ length inputs.now }
     requires few { length inputs.now ≤ most_plates }
     requires named { length names.now ≡ length inputs.now }
@@ -60,6 +60,6 @@ fn gather_plates<T: Tray, S: AsStr>(
             plane_turns_back();
             assemble_planes(alloc, job, planes, names)
         }
-        Err(refusal) => Err(refusal),
+        Err(error) => Err(error),
     }
 }

@@ -7,15 +7,15 @@ use outside::tray::Tray;
 use std::alloc::Global;
 use std::convert::AsStr;
 
-/// What is sought in each of several files, and the refusals where it is not found.
+/// What is sought in each of several files, and the errors where it is not found.
 pub trait Look {
     /// What is found in a file.
     type Found: Drop;
 
     /// Why a file is refused.
-    type Refusal: Drop;
+    type CommonError: Drop;
 
-    ghost sought: { Self → Sought Self.Found Self.Refusal };
+    ghost sought: { Self → Sought Self.Found Self.CommonError };
 
     /// Looks into the file `name`, which is file number `number`, from 0.
     fn look<T: Tray>(
@@ -24,12 +24,12 @@ pub trait Look {
         tray: &mut T,
         number: u32,
         name: &str,
-    ) -> Result<Self::Found, Self::Refusal>
+    ) -> Result<Self::Found, Self::CommonError>
         ensures { LooksAt (sought self.now) number name.now (T.state tray.old)
             (T.state tray.new) result };
 
-    /// The refusal if there is no memory for what was found.
-    fn no_memory(&self) -> Self::Refusal
+    /// The error if there is no memory for what was found.
+    fn no_memory(&self) -> Self::CommonError
         ensures { result ≡ (sought self.now).memory };
 }
 
@@ -40,7 +40,7 @@ pub fn look_through<T: Tray, S: AsStr, L: Look>(
     tray: &mut T,
     inputs: &[S],
     look: &L,
-) -> Result<List<L::Found>, L::Refusal>
+) -> Result<List<L::Found>, L::CommonError>
     requires { length inputs.now ≤ most_plates }
     ensures { LooksThrough (L.sought look.now) (map S.text inputs.now) (T.state tray.old)
         (T.state tray.new) result }
@@ -53,7 +53,7 @@ pub fn look_through<T: Tray, S: AsStr, L: Look>(
                     return Err(look.no_memory());
                 }
             }
-            Err(refusal) => return Err(refusal),
+            Err(error) => return Err(error),
         }
     }
     Ok(all)

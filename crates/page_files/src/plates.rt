@@ -3,12 +3,12 @@ ghost use Rattle.page_files.specs.Steps.{ReadsPlates, plates_sought};
 ghost use Rattle.page_model.specs.Limits.{most_plates};
 
 use crate::looks::{Look, look_through};
+use common_errors::common::CommonError;
 use outside::tray::Tray;
 use page_model::parts::{Plane, PlaneList};
 use pgm_plates::laws::{file_fault, file_plate};
-use pgm_plates::plate::PlateRefusal;
+use pgm_plates::plate::PlateError;
 use pgm_plates::reading::read_plane;
-use refusals::refusal::Refusal;
 use std::alloc::Global;
 use std::convert::AsStr;
 
@@ -18,7 +18,7 @@ pub fn read_plates<T: Tray, S: AsStr>(
     alloc: Global,
     tray: &mut T,
     inputs: &[S],
-) -> Result<PlaneList, Refusal>
+) -> Result<PlaneList, CommonError>
     requires { length inputs.now ≤ most_plates }
     ensures { ReadsPlates (map S.text inputs.now) (T.state tray.old) (T.state tray.new) result }
 {
@@ -31,7 +31,7 @@ struct Plates;
 impl Look for Plates {
     type Found = Plane;
 
-    type Refusal = Refusal;
+    type CommonError = CommonError;
 
     ghost sought = { λ look. plates_sought };
 
@@ -41,22 +41,22 @@ impl Look for Plates {
         tray: &mut T,
         number: u32,
         name: &str,
-    ) -> Result<Plane, Refusal> {
+    ) -> Result<Plane, CommonError> {
         match read_plane(alloc, tray, name) {
             Ok(read) => {
                 file_plate();
                 Ok(read)
             }
-            Err(PlateRefusal::Fault(fault)) => {
+            Err(PlateError::Fault(fault)) => {
                 file_fault();
-                Err(Refusal::Plate(number, fault))
+                Err(CommonError::Plate(number, fault))
             }
-            Err(PlateRefusal::ReadFault) => Err(Refusal::Read(Some(number))),
-            Err(PlateRefusal::OutOfMemory) => Err(Refusal::Memory),
+            Err(PlateError::ReadFault) => Err(CommonError::Read(Some(number))),
+            Err(PlateError::OutOfMemory) => Err(CommonError::Memory),
         }
     }
 
-    fn no_memory(&self) -> Refusal {
-        Refusal::Memory
+    fn no_memory(&self) -> CommonError {
+        CommonError::Memory
     }
 }

@@ -5,11 +5,11 @@ ghost use Rattle.page_model.specs.Limits.{most_samples};
 ghost use Rattle.page_files.specs.Writing.{WritesPage, WritesPlates};
 
 use crate::format::write_encoded;
+use common_errors::common::CommonError;
 use outside::rack::Rack;
-use outside::tray::Failed;
+use outside::tray::DeviceError;
 use outside::writing::write_file;
 use page_model::parts::PlaneList;
-use refusals::refusal::Refusal;
 use std::convert::AsStr;
 
 /// Writes each plane as a plate to the file of its name, in order, and then the text to the report. It allocates
@@ -24,7 +24,7 @@ pub fn write_page<R: Rack, S: AsStr>(
     planes: PlaneList,
     report: &str,
     text: &[u8],
-) -> Result<(), Refusal>
+) -> Result<(), CommonError>
     requires numbered { length names.now ≤ 2 ^ 32 }
     requires count { length planes ≡ length names.now }
     requires planes { All IsPlane planes }
@@ -35,19 +35,19 @@ pub fn write_page<R: Rack, S: AsStr>(
     match write_plates(rack, names, planes) {
         Ok(()) => match write_file(rack, report, text) {
             Ok(()) => Ok(()),
-            Err(Failed) => Err(Refusal::Write(None)),
+            Err(DeviceError) => Err(CommonError::Write(None)),
         },
-        Err(refusal) => Err(refusal),
+        Err(error) => Err(error),
     }
 }
 
 /// Writes each plane as a plate to the file of its name, in order, as `write_page` does before the report. It allocates
-/// nothing, and its only refusal is `Write` with the plate's number.
+/// nothing, and its only error is `Write` with the plate's number.
 pub fn write_plates<R: Rack, S: AsStr>(
     rack: &mut R,
     names: &[S],
     planes: PlaneList,
-) -> Result<(), Refusal>
+) -> Result<(), CommonError>
     requires numbered { length names.now ≤ 2 ^ 32 }
     requires count { length planes ≡ length names.now }
     requires planes { All IsPlane planes }
@@ -60,7 +60,7 @@ pub fn write_plates<R: Rack, S: AsStr>(
     for plane in planes {
         match write_encoded(rack, names[place].as_str(), &plane) {
             Ok(()) => place += 1,
-            Err(Failed) => return Err(Refusal::Write(Some(place as u32))),
+            Err(DeviceError) => return Err(CommonError::Write(Some(place as u32))),
         }
     }
     Ok(())

@@ -11,8 +11,8 @@ pub plane_of : (page : PageParts) (c : ℕ) → IsPage page → c < plates page 
 plane_of page c valid l = valid.parts.planes_in_range c no_plane l
 
 -- each sample has its place in each plane
-pub place_held : (page : PageParts) (c : ℕ) (p : At) → IsPage page → c < plates page → InPage page p → place page p < length (plane_at page.planes c).tints
-place_held page c p valid l h =
+pub place_stored : (page : PageParts) (c : ℕ) (p : At) → IsPage page → c < plates page → InPage page p → place page p < length (plane_at page.planes c).tints
+place_stored page c p valid l h =
     let plane = plane_of page c valid l in
     let same = valid.agree c l in
     let inside : p.y * width page + p.x < width page * height page = mul-add-lt p.y (width page) p.x (height page) h.y h.x in
@@ -22,4 +22,4 @@ place_held page c p valid l h =
 pub tint_at_most : (page : PageParts) (c : ℕ) (p : At) → IsPage page → c < plates page → InPage page p → tint page c p ≤ maxval page
 tint_at_most page c p valid l h =
     let plane = plane_of page c valid l in
-    rw (← (valid.agree c l).deep) (plane.below (place page p) 0 (place_held page c p valid l h))
+    rw (← (valid.agree c l).deep) (plane.below (place page p) 0 (place_stored page c p valid l h))

@@ -9,7 +9,7 @@ use Rattle.page_model.specs.Page.{width, height}
 use Rattle.page_model.specs.Decider.{grid_rows}
 use Rattle.page_model.specs.Deciding.{decides}
 use Rattle.page_model.specs.Edges.{d2}
-use Rattle.page_model.specs.Marks.{Marked, HoldsEdge, held_rows, marked}
+use Rattle.page_model.specs.Marks.{Marked, HoldsEdge, stored_rows, marked}
 use Rattle.lists.specs.Words.{gap, first_least}
 use Rattle.page_model.specs.Limits.{level_code}
 
@@ -37,7 +37,7 @@ column_answer page reach x2 y = offset_code y (column_edge page reach x2 y)
 -- the marks are those of the page's deciding edges
 pub record AreMarks (page : PageParts) (m : Marked) : Type 0 where
   pub wide : m.wide ≡ width page
-  pub inside : m.top + held_rows m ≤ height page
+  pub inside : m.top + stored_rows m ≤ height page
   pub each : (x2 y2 : ℕ) → HoldsEdge m x2 y2 → marked m x2 y2 ≡ edge_decides page x2 y2
 
 -- the rows above and below that a reach in half-samples touches
@@ -47,7 +47,7 @@ halo reach = (reach + 1) / 2
 -- the marks of a row are held
 pub record HoldsRow (m : Marked) (row : ℕ) : Type 0 where
   pub from : m.top ≤ row
-  pub to : row < m.top + held_rows m
+  pub to : row < m.top + stored_rows m
 
 -- the asked rows are rows of the page, and all rows of the page within half the reach of them
 -- are held

@@ -1,14 +1,14 @@
 -- What it means to put a page out.
 use Rattle.std.specs.Prelude.{◌≡◌, ℕ, IsTrue, List, length, Result, Ok, Err}
 use Rattle.band_claims.specs.Receipt.{Receipt}
-use Rattle.outside.specs.Causes.{Asks, AsksPrefix}
+use Rattle.outside.specs.ErrorCases.{Asks, AsksPrefix}
 use Rattle.outside.specs.Rack.{RackState, KeepsRack}
 use Rattle.page_model.specs.declared.parts.PageParts.{PageParts}
 use Rattle.page_model.specs.Conditions.{IsPage}
 use Rattle.page_files.specs.Writing.{WritesAll, Breaks, FailsOnce, FinishesAll}
 use Rattle.trap_engine.specs.Receipts.{IsWholeReceipt}
-use Rattle.refusals.specs.declared.refusal.Refusal.{Refusal}
-use Rattle.refusals.specs.declared.refusal.Refusal.TheVariants.{Write, Memory}
+use Rattle.common_errors.specs.declared.common.CommonError.{CommonError}
+use Rattle.common_errors.specs.declared.common.CommonError.TheVariants.{Write, Memory}
 use Rattle.page_files.specs.Verdicts.{Targets, outcome, written_names}
 
 -- the files of these names
@@ -16,7 +16,7 @@ abbrev pub targets : List (List ℕ) → List ℕ → Targets
 targets outputs report = record { outputs = outputs; report = report }
 
 -- What the answer says where the page is put out.
-abbrev pub AnswersPut : ℕ → Targets → PageParts → RackState → RackState → Result Receipt Refusal
+abbrev pub AnswersPut : ℕ → Targets → PageParts → RackState → RackState → Result Receipt CommonError
     → Type 0
 AnswersPut band target page before after (Ok receipt) = IsWholeReceipt page band receipt
     × WritesAll (outcome target page) before after
@@ -29,10 +29,10 @@ AnswersPut band target page before after (Err other) = ⊥
 
 -- A page is trapped in bands of `band` rows, and its files are written.
 pub record PutsOut (band : ℕ) (target : Targets) (page : PageParts) (before after : RackState)
-    (result : Result Receipt Refusal) : Type 0 where
+    (result : Result Receipt CommonError) : Type 0 where
   pub valid : IsPage page
   pub keeps : KeepsRack before after
-  pub told : IsTrue before.tells → after.told ≡ before.told
+  pub reported : IsTrue before.tells → after.reported ≡ before.reported
   pub asked : AsksPrefix before.asked after.asked (written_names target)
   pub answer : AnswersPut band target page before after result
   pub once : FailsOnce before after result

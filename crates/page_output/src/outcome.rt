@@ -5,8 +5,7 @@ ghost use Rattle.page_model.specs.Tints.{trapped_planes};
 ghost use Rattle.trap_engine.specs.Receipts.{IsWholeReceipt};
 ghost use Rattle.trap_report.specs.Report.{AreCounts, report_of};
 
-use band_claims::Closed;
-use band_claims::Gate;
+use band_claims::{Closed, Gate};
 use page_model::page::Page;
 use page_model::parts::{Name, OutOfMemory, PlaneList};
 use std::alloc::Global;

@@ -4,13 +4,12 @@ ghost use Rattle.page_model.specs.Page.{plates};
 ghost use Rattle.page_output.specs.Output.{PutsOut, targets};
 
 use crate::outcome::outcome_of;
-use band_claims::Closed;
-use band_claims::Gate;
+use band_claims::{Closed, Gate};
+use common_errors::common::CommonError;
 use outside::rack::Rack;
+use page_files::writing::write_page;
 use page_model::laws::trapped_planes_law;
 use page_model::page::Page;
-use page_files::writing::write_page;
-use refusals::refusal::Refusal;
 use std::alloc::Global;
 use std::convert::AsStr;
 use std::thread::Threads;
@@ -27,7 +26,7 @@ pub struct OutputArgs<'a, S> {
 
 /// Traps the page, writes its files, and returns the receipt. All memory is allocated before the first file is created.
 ///
-/// The refusal is `Memory`, which leaves all files as they were, or `Write`, as `page_files::write_page` gives it.
+/// The error is `Memory`, which leaves all files as they were, or `Write`, as `page_files::write_page` gives it.
 pub fn put_out<H: Threads + Sync, S: AsStr, R: Rack, G: Gate + Sync>(
     rt: &H,
     alloc: Global,
@@ -35,7 +34,7 @@ pub fn put_out<H: Threads + Sync, S: AsStr, R: Rack, G: Gate + Sync>(
     order: &OutputArgs<'_, S>,
     rack: &mut R,
     gate: &G,
-) -> Result<Closed, Refusal>
+) -> Result<Closed, CommonError>
     requires some_workers { 1 ≤ order.now.workers }
     requires few_workers { order.now.workers ≤ most_workers }
     requires some_rows { 1 ≤ order.now.band }
@@ -46,7 +45,7 @@ pub fn put_out<H: Threads + Sync, S: AsStr, R: Rack, G: Gate + Sync>(
 {
     let _valid = page.plates();
     let Ok(outcome) = outcome_of(rt, alloc, page, order.workers, order.band, gate) else {
-        return Err(Refusal::Memory);
+        return Err(CommonError::Memory);
     };
     trapped_planes_law(page);
     match write_page(
@@ -57,6 +56,6 @@ pub fn put_out<H: Threads + Sync, S: AsStr, R: Rack, G: Gate + Sync>(
         outcome.report.as_slice(),
     ) {
         Ok(()) => Ok(outcome.receipt),
-        Err(refusal) => Err(refusal),
+        Err(error) => Err(error),
     }
 }

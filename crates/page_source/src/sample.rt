@@ -13,7 +13,7 @@ use thiserror::Error;
 
 /// Why a sample page could not be made.
 #[derive(Clone, Copy, Debug, Drop, Error, PartialEq, Eq)]
-pub enum SampleRefusal {
+pub enum SampleError {
     /// Four times width times height is above 160,000,000.
     #[error("the sample page has too many samples")]
     TooManySamples,
@@ -31,29 +31,24 @@ const BLACK: [u16; 8] = [0, 0, 0, 255, 0, 0, 0, 128];
 
 /// The sample page of a number: four plates of `width * height` samples at 600 pixels per inch, in square tiles of
 /// eight samples a side, and zone 0 alone. The page is this project's own.
-pub fn sample_page(
-    alloc: Global,
-    number: u32,
-    width: u32,
-    height: u32,
-) -> Result<Page, SampleRefusal>
+pub fn sample_page(alloc: Global, number: u32, width: u32, height: u32) -> Result<Page, SampleError>
     requires some_width { 1 ≤ width }
     requires narrow { width ≤ most_side }
     requires some_height { 1 ≤ height }
     requires low { height ≤ most_side }
-    ensures too_many { (result ≡ Err SampleRefusal.TooManySamples)
+    ensures too_many { (result ≡ Err SampleError.TooManySamples)
         ↔ (most_samples < 4 * width * height) }
     ensures page { IfOk result (λ page. page ≡ sample_parts number width height) }
 {
     if 4 * width as u64 * height as u64 > MOST_SAMPLES {
-        return Err(SampleRefusal::TooManySamples);
+        return Err(SampleError::TooManySamples);
     }
     match parts(alloc, number, width, height) {
         Ok(parts) => match Page::new(parts) {
             Ok(page) => Ok(page),
             Err(_) => unreachable!(),
         },
-        Err(OutOfMemory) => Err(SampleRefusal::OutOfMemory),
+        Err(OutOfMemory) => Err(SampleError::OutOfMemory),
     }
 }
 

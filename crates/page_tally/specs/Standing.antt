@@ -101,7 +101,7 @@ pub record HasRows (page : PageParts) (rows : ℕ) (outcome : Outcome) : Type 0 
   pub changes : length outcome.changes.items ≡ width page
 
 -- the lists that an outcome counts in have the room that they had
-pub record KeepsRoom (before after : Outcome) : Type 0 where
+pub record KeepsWorkspace (before after : Outcome) : Type 0 where
   pub zone_samples : vec_capacity after.zone_samples ≡ vec_capacity before.zone_samples
   pub zone_changed : vec_capacity after.zone_changed ≡ vec_capacity before.zone_changed
   pub plate_changed : vec_capacity after.plate_changed ≡ vec_capacity before.plate_changed

@@ -6,7 +6,7 @@ ghost use Rattle.page_model.specs.Counts.{page_counts};
 ghost use Rattle.page_model.specs.Page.{height, plates, width};
 ghost use Rattle.page_model.specs.Tints.{trapped_planes};
 ghost use Rattle.page_model.specs.Zones.{AreZones};
-ghost use Rattle.page_tally.specs.Standing.{AreMarks, ArePlatesCounted, AreTrappedTo, AreZonesCounted, HasRows, IsNewRow, KeepsRoom, KeepsRow};
+ghost use Rattle.page_tally.specs.Standing.{AreMarks, ArePlatesCounted, AreTrappedTo, AreZonesCounted, HasRows, IsNewRow, KeepsWorkspace, KeepsRow};
 ghost use Rattle.page_tally.specs.Shapes.{HasShape, shape_of};
 ghost use Rattle.page_tally.specs.Tallies.{AreRowsCounted, HasPlates};
 ghost use Rattle.page_tally.specs.Uncounted.{HasTints};
@@ -68,7 +68,7 @@ impl Outcome {
     pub fn start(&mut self, page: &Page)
         requires shape { HasShape (shape_of page.now) self.old }
         ensures rows { HasRows page.now 0 self.new }
-        ensures room { KeepsRoom self.old self.new }
+        ensures workspace { KeepsWorkspace self.old self.new }
     {
         let _valid = page.plates();
         self.start_uncounted(page);
@@ -83,7 +83,7 @@ impl Outcome {
     pub fn start_uncounted(&mut self, page: &Page)
         requires shape { HasShape (shape_of page.now) self.old }
         ensures tints { HasTints page.now 0 self.new }
-        ensures room { KeepsRoom self.old self.new }
+        ensures workspace { KeepsWorkspace self.old self.new }
     {
         let _valid = page.plates();
         let alloc = *self.changes.allocator();
@@ -97,7 +97,7 @@ impl Outcome {
         requires tints { MatchOption tints (KeepsRow page.now y)
             (λ row. IsNewRow page.now y row.now) }
         ensures rows { HasTints page.now (y + 1) self.new }
-        ensures room { KeepsRoom self.old self.new }
+        ensures workspace { KeepsWorkspace self.old self.new }
     {
         if let Some(row) = tints {
             put_row(page, row, y, &mut self.planes);
@@ -121,7 +121,7 @@ impl Outcome {
         requires tints { MatchOption tints (KeepsRow page.now y)
             (λ row. IsNewRow page.now y row.now) }
         ensures rows { HasRows page.now (y + 1) self.new }
-        ensures room { KeepsRoom self.old self.new }
+        ensures workspace { KeepsWorkspace self.old self.new }
     {
         let _valid = page.plates();
         self.edges += edges_in(marks);
@@ -148,7 +148,7 @@ impl Outcome {
         ensures plate_changed { ArePlatesCounted page.now ((y + 1) * width page.now)
             self.new.plate_changed.items }
         ensures changes { length self.new.changes.items ≡ width page.now }
-        ensures room { KeepsRoom self.old self.new }
+        ensures workspace { KeepsWorkspace self.old self.new }
         ensures zone_samples { self.new.zone_samples ≡ self.old.zone_samples }
         ensures edges { self.new.edges ≡ self.old.edges }
     {
@@ -170,7 +170,7 @@ impl Outcome {
         ensures planes { self.new.planes ≡ slice_set self.old.planes c plane }
         ensures plate_changed { self.new.plate_changed.items
             ≡ slice_set self.old.plate_changed.items c changed }
-        ensures room { KeepsRoom self.old self.new }
+        ensures workspace { KeepsWorkspace self.old self.new }
         ensures zone_samples { self.new.zone_samples ≡ self.old.zone_samples }
         ensures zone_changed { self.new.zone_changed ≡ self.old.zone_changed }
         ensures edges { self.new.edges ≡ self.old.edges }
@@ -194,7 +194,7 @@ impl Outcome {
         requires counted { AreRowsCounted page.now rows.first (rows.first + rows.count)
             zone_samples.now zone_changed.now edges }
         ensures plates { HasPlates page.now (rows.first + rows.count) self.new }
-        ensures room { KeepsRoom self.old self.new }
+        ensures workspace { KeepsWorkspace self.old self.new }
     {
         let _valid = page.plates();
         self.edges += edges;

@@ -1,13 +1,13 @@
--- The count of a tray's faults that a refusal keeps, whatever was answered before it.
+-- The count of a tray's faults that a error keeps, whatever was answered before it.
 use Rattle.std.proofs.Common.{◌≡◌, ℕ, Err, ◌∙◌}
 use Rattle.outside.specs.Tray.{TrayState}
 use Rattle.pgm_plates.specs.declared.plate.PlateFault.TheVariants.{BadMagic, BadHeader, SideRange, TooManySamples, MaxvalRange, SampleAboveMaxval, Truncated, TrailingBytes}
-use Rattle.pgm_plates.specs.declared.plate.PlateRefusal.{PlateRefusal}
-use Rattle.pgm_plates.specs.declared.plate.PlateRefusal.TheVariants.{Fault, ReadFault, OutOfMemory}
-use Rattle.pgm_plates.specs.Images.{further_refusal}
+use Rattle.pgm_plates.specs.declared.plate.PlateError.{PlateError}
+use Rattle.pgm_plates.specs.declared.plate.PlateError.TheVariants.{Fault, ReadFault, OutOfMemory}
+use Rattle.pgm_plates.specs.Images.{further_error}
 use Rattle.pgm_plates.specs.Reading.{KeepsCount}
 
-pub refused_count : (S T : Type 0) (a b c : TrayState) (refusal : PlateRefusal) → b.faults ≡ a.faults → KeepsCount {T = S} b c (Err refusal) → KeepsCount {T = T} a c (Err refusal)
+pub refused_count : (S T : Type 0) (a b c : TrayState) (error : PlateError) → b.faults ≡ a.faults → KeepsCount {T = S} b c (Err error) → KeepsCount {T = T} a c (Err error)
 refused_count S T a b c ReadFault before count = tt
 refused_count S T a b c OutOfMemory before count = count ∙ before
 refused_count S T a b c (Fault (SampleAboveMaxval at)) before count = tt
@@ -19,8 +19,8 @@ refused_count S T a b c (Fault (MaxvalRange at)) before count = count ∙ before
 refused_count S T a b c (Fault (Truncated at)) before count = count ∙ before
 refused_count S T a b c (Fault (TrailingBytes at)) before count = count ∙ before
 
--- the same refusal, at its place in the file
-pub further_count : (S T : Type 0) (a b : TrayState) (start : ℕ) (refusal : PlateRefusal) → KeepsCount {T = S} a b (Err refusal) → KeepsCount {T = T} a b (Err (further_refusal start refusal))
+-- the same error, at its place in the file
+pub further_count : (S T : Type 0) (a b : TrayState) (start : ℕ) (error : PlateError) → KeepsCount {T = S} a b (Err error) → KeepsCount {T = T} a b (Err (further_error start error))
 further_count S T a b start ReadFault count = tt
 further_count S T a b start OutOfMemory count = count
 further_count S T a b start (Fault (SampleAboveMaxval at)) count = tt

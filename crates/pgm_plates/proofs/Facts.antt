@@ -19,7 +19,7 @@ use Rattle.pgm_plates.proofs.Shapes.{one_header}
 use Rattle.pgm_plates.proofs.Moments.{stands_now_within, only_truncated}
 use Rattle.pgm_plates.proofs.Decisions.{one_sample, some_size, raster_size, clean_raster}
 use Rattle.pgm_plates.proofs.Prefixes.{clean_header}
-use Rattle.pgm_plates.proofs.Causes.{one_decided_within}
+use Rattle.pgm_plates.proofs.ErrorCases.{one_decided_within}
 
 raster_same : (m : ℕ) (xs ys : List ℕ) → length xs ≡ length ys → raster m xs ≡ raster m ys → xs ≡ ys
 raster_same m [] [] count e = refl

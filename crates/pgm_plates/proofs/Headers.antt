@@ -2,8 +2,8 @@
 use Rattle.std.proofs.Common.{◌≡◌, ◌≢◌, ℕ, ◌<◌, ◌≤◌, ◌+◌, ◌*◌, List, [], ◌∷◌, ◌++◌, length, take, get_or, Option, Some, None, Ok, Err, IsTrue, refl, sym, ap, ◌∙◌, subst, inl, inr, arith}
 use Rattle.std.proofs.lemmas.Bool.{cases_lt}
 use Rattle.std.proofs.lemmas.List.{append-nil, take-append-le, take_all, length-append, length_push}
-use Rattle.outside.specs.declared.tray.Failed.{Failed}
-use Rattle.outside.specs.Causes.{Rose}
+use Rattle.outside.specs.declared.tray.DeviceError.{DeviceError}
+use Rattle.outside.specs.ErrorCases.{Rose}
 use Rattle.outside.specs.Tray.{TrayState, Reads}
 use Rattle.outside.specs.Reading.{Takes}
 use Rattle.outside.proofs.Steps.{takes_then, takes_as, takes_read, rose_before}
@@ -18,7 +18,7 @@ use Rattle.pgm_plates.specs.declared.header.Header.{Header}
 use Rattle.pgm_plates.specs.declared.plate.Plate.{Plate}
 use Rattle.pgm_plates.specs.declared.plate.PlateFault.{PlateFault}
 use Rattle.pgm_plates.specs.declared.plate.PlateFault.TheVariants.{BadMagic, BadHeader, SideRange, TooManySamples, MaxvalRange, SampleAboveMaxval, Truncated, TrailingBytes}
-use Rattle.pgm_plates.specs.declared.plate.PlateRefusal.TheVariants.{Fault, ReadFault}
+use Rattle.pgm_plates.specs.declared.plate.PlateError.TheVariants.{Fault, ReadFault}
 use Rattle.pgm_plates.specs.Header.{IsHeader, IsShape}
 use Rattle.pgm_plates.specs.Limits.{samples_within}
 use Rattle.pgm_plates.specs.Plates.{IsSideWithin, IsPlateFileWithin, raster}
@@ -49,10 +49,10 @@ one_byte [] n b len within some read = absurd (omega arith)
 one_byte (x ∷ []) n b len within some read = take_all n (x ∷ []) (omega arith) ∙ ap (λ (y : ℕ). y ∷ []) (sym read)
 one_byte (x ∷ y ∷ rest) n b len within some read = absurd (omega arith)
 
-pub takes_one : (b c : TrayState) (buf : List ℕ) (n byte : ℕ) → Reads {E = Failed} b c (Ok n) buf → length buf ≡ 1 → n ≢ 0 → byte ≡ get_or buf 0 byte → Takes (byte ∷ []) b c
+pub takes_one : (b c : TrayState) (buf : List ℕ) (n byte : ℕ) → Reads {E = DeviceError} b c (Ok n) buf → length buf ≡ 1 → n ≢ 0 → byte ≡ get_or buf 0 byte → Takes (byte ∷ []) b c
 takes_one b c buf n byte read len some is = takes_as (take n buf) (byte ∷ []) b c (one_byte buf n byte len read.within some is) (takes_read b c n buf read)
 
-pub takes_end : (b c : TrayState) (buf : List ℕ) (n : ℕ) → Reads {E = Failed} b c (Ok n) buf → n ≡ 0 → length buf ≡ 1 → Takes [] b c × AtEnd b c
+pub takes_end : (b c : TrayState) (buf : List ℕ) (n : ℕ) → Reads {E = DeviceError} b c (Ok n) buf → n ≡ 0 → length buf ≡ 1 → Takes [] b c × AtEnd b c
 takes_end b c buf n read none len =
     let nothing : take n buf ≡ [] = ap (λ (k : ℕ). take k buf) none in (
       takes_as (take n buf) [] b c nothing (takes_read b c n buf read),
@@ -65,8 +65,8 @@ takes_failed b c buf e read = record { keeps = read.keeps; asked = read.asked; b
 pub takes_nil : (p : List ℕ) (a b c : TrayState) → Takes p a b → Takes [] b c → Takes p a c
 takes_nil p a b c one two = takes_as (p ++ []) p a c (append-nil p) (takes_then p [] a b c one two)
 
-pub told_on : (p : List ℕ) (a b : TrayState) → Takes p a b → IsTrue a.tells → IsTrue b.tells
-told_on p a b takes tells = takes.keeps.tells ∙ tells
+pub reported_on : (p : List ℕ) (a b : TrayState) → Takes p a b → IsTrue a.tells → IsTrue b.tells
+reported_on p a b takes tells = takes.keeps.tells ∙ tells
 
 -- a prefix of bytes with one byte more
 no_header : (bytes : List ℕ) (b : ℕ) → HoldsNoHeader bytes → (IsShape (bytes ++ b ∷ []) → ⊥) → HoldsNoHeader (bytes ++ b ∷ [])
@@ -268,7 +268,7 @@ module _ (bounds : Bounds) where
         answer = (
           took.0.begun,
           subst (λ (n : ℕ). IsFaultWithin bounds bytes (Truncated n)) came.size (truncated bounds bytes (still_clean bounds bytes scan came.scanned (inr (omega (arith, came.size)))) (no_plate bytes none)),
-          λ cut tells. took.1 (told_on bytes a b came.takes tells),
+          λ cut tells. took.1 (reported_on bytes a b came.takes tells),
         );
       }
 

@@ -9,12 +9,12 @@ use Rattle.outside.specs.Tray.{TrayState}
 use Rattle.outside.specs.Reading.{Takes}
 use Rattle.outside.proofs.Steps.{takes_then, takes_as, rose_before}
 use Rattle.pgm_plates.specs.declared.plate.PlateFault.TheVariants.{BadMagic, BadHeader, SideRange, TooManySamples, MaxvalRange, SampleAboveMaxval, Truncated, TrailingBytes}
-use Rattle.pgm_plates.specs.declared.plate.PlateRefusal.{PlateRefusal}
-use Rattle.pgm_plates.specs.declared.plate.PlateRefusal.TheVariants.{Fault, ReadFault, OutOfMemory}
+use Rattle.pgm_plates.specs.declared.plate.PlateError.{PlateError}
+use Rattle.pgm_plates.specs.declared.plate.PlateError.TheVariants.{Fault, ReadFault, OutOfMemory}
 use Rattle.pgm_plates.specs.Plates.{sample_bytes, sample_size, raster}
 use Rattle.pgm_plates.specs.Readers.{Fit, IsPart, IsAbove, RasterRefused, RasterTaken, IsDecoded, FirstAbove}
 use Rattle.pgm_plates.proofs.Rasters.{narrow_raster}
-use Rattle.pgm_plates.proofs.Headers.{told_on}
+use Rattle.pgm_plates.proofs.Headers.{reported_on}
 use Rattle.pgm_plates.proofs.Decisions.{some_size, raster_size, raster_both}
 
 pub most_more : (xs : List ℕ) (i most r : ℕ) → i < length xs → r ≡ max most (get_or xs i 0) → All (λ (s : ℕ). s ≤ most) (take i xs) → All (λ (s : ℕ). s ≤ r) (take (i + 1) xs)
@@ -167,8 +167,8 @@ above_on maxval count want place xs bytes fit few above = record {
       omega (arith, above.within);
 }
 
--- A refusal after some samples is one of the whole raster.
-pub refused_on : (maxval count want start : ℕ) (a b c : TrayState) (xs : List ℕ) (refusal : PlateRefusal) → Takes (raster maxval xs) a b → Fit maxval xs → length xs + want ≤ count → RasterRefused maxval want (start + length xs * sample_size maxval) b c refusal → RasterRefused maxval count start a c refusal
+-- A error after some samples is one of the whole raster.
+pub refused_on : (maxval count want start : ℕ) (a b c : TrayState) (xs : List ℕ) (error : PlateError) → Takes (raster maxval xs) a b → Fit maxval xs → length xs + want ≤ count → RasterRefused maxval want (start + length xs * sample_size maxval) b c error → RasterRefused maxval count start a c error
 refused_on maxval count want start a b c xs (Fault (SampleAboveMaxval at)) took fit few r =
     let bytes = r.0 in
     let place = r.1 in (
@@ -187,7 +187,7 @@ refused_on maxval count want start a b c xs (Fault (Truncated at)) took fit few 
       part_on maxval count want xs bytes fit few r.2,
       (let less = r.3 in omega arith),
       (let is = r.4 in omega arith),
-      λ tells. r.5 (told_on (raster maxval xs) a b took tells),
+      λ tells. r.5 (reported_on (raster maxval xs) a b took tells),
     )
 refused_on maxval count want start a b c xs ReadFault took fit few r =
     let bytes = r.0 in (
@@ -214,8 +214,8 @@ taken_on maxval want a b c xs ys took taken =
     takes_as (raster maxval xs ++ raster maxval ys) (raster maxval (xs ++ ys)) a c (sym (raster_both maxval xs ys)) (takes_then (raster maxval xs) (raster maxval ys) a b c took taken.takes)
 
 -- no room for the samples of a piece
-pub room_refused : (maxval count want start : ℕ) (a b c : TrayState) (xs ys : List ℕ) → Takes (raster maxval xs) a b → length xs + want ≤ count → RasterTaken maxval want b c ys → RasterRefused maxval count start a c OutOfMemory
-room_refused maxval count want start a b c xs ys took few taken =
+pub workspace_refused : (maxval count want start : ℕ) (a b c : TrayState) (xs ys : List ℕ) → Takes (raster maxval xs) a b → length xs + want ≤ count → RasterTaken maxval want b c ys → RasterRefused maxval count start a c OutOfMemory
+workspace_refused maxval count want start a b c xs ys took few taken =
     let size = raster_size maxval (xs ++ ys) in
     let all : length (xs ++ ys) ≤ count = omega (arith, length-append xs ys, taken.all) in (
       raster maxval (xs ++ ys),
@@ -223,11 +223,11 @@ room_refused maxval count want start a b c xs ys took few taken =
       subst (λ (n : ℕ). n ≤ count * sample_size maxval) (sym size) (mul-le-mul_right (sample_size maxval) all),
     )
 
-pub within_room : (buf : List ℕ) (filled count size : ℕ) → filled ≤ length buf → length buf ≡ count * size → length (take filled buf) ≤ count * size
-within_room buf filled count size le room = omega (arith, length-take-le filled buf le)
+pub within_workspace : (buf : List ℕ) (filled count size : ℕ) → filled ≤ length buf → length buf ≡ count * size → length (take filled buf) ≤ count * size
+within_workspace buf filled count size le workspace = omega (arith, length-take-le filled buf le)
 
-pub short_of_room : (buf : List ℕ) (filled count size : ℕ) → filled < length buf → length buf ≡ count * size → length (take filled buf) < count * size
-short_of_room buf filled count size less room = omega (arith, length-take-le filled buf (let le : filled ≤ length buf = omega arith in le))
+pub short_of_workspace : (buf : List ℕ) (filled count size : ℕ) → filled < length buf → length buf ≡ count * size → length (take filled buf) < count * size
+short_of_workspace buf filled count size less workspace = omega (arith, length-take-le filled buf (let le : filled ≤ length buf = omega arith in le))
 
 pub taken_whole : (maxval count : ℕ) (bytes samples : List ℕ) (a b : TrayState) → Takes bytes a b → IsDecoded maxval bytes samples → Fit maxval samples → length bytes ≡ count * sample_size maxval → RasterTaken maxval count a b samples
 taken_whole maxval count bytes samples a b took decoded fit all =

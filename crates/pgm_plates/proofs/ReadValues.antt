@@ -8,8 +8,8 @@ use Rattle.outside.proofs.Steps.{takes_as}
 use Rattle.page_model.specs.Conditions.{IsPlane}
 use Rattle.page_model.specs.Limits.{most_samples}
 use Rattle.page_model.specs.declared.parts.Plane.{Plane}
-use Rattle.pgm_plates.specs.declared.plate.PlateRefusal.{PlateRefusal}
-use Rattle.pgm_plates.specs.declared.plate.PlateRefusal.TheVariants.{OutOfMemory}
+use Rattle.pgm_plates.specs.declared.plate.PlateError.{PlateError}
+use Rattle.pgm_plates.specs.declared.plate.PlateError.TheVariants.{OutOfMemory}
 use Rattle.pgm_plates.specs.declared.values.Form.{Form}
 use Rattle.pgm_plates.specs.declared.values.Form.TheVariants.{Samples, Tints}
 use Rattle.pgm_plates.specs.Planes.{plate_of}
@@ -18,7 +18,7 @@ use Rattle.pgm_plates.specs.Readers.{Fit, RasterRefused, RasterTaken, samples_fr
 use Rattle.pgm_plates.specs.Reading.{ReadsPlate}
 use Rattle.pgm_plates.specs.Sequences.{ReadsPage}
 use Rattle.pgm_plates.proofs.Facts.{turned_back}
-use Rattle.pgm_plates.proofs.Pieces.{refused_on, room_refused, taken_on}
+use Rattle.pgm_plates.proofs.Pieces.{refused_on, workspace_refused, taken_on}
 use Rattle.pgm_plates.proofs.Turned.{turned_fit}
 
 pub from_size : (t : Form) (m : ℕ) (xs : List ℕ) → length (samples_from t m xs) ≡ length xs
@@ -51,15 +51,15 @@ pub values_all : (t : Form) (m count : ℕ) (a b : TrayState) (xs : List ℕ) �
 values_all t m count a b xs took fit all = record { takes = took; fit = from_fit t m xs fit; all = from_size t m xs ∙ all }
 
 -- no room for a piece
-pub values_no_room : (t : Form) (m count want start : ℕ) (a b c : TrayState) (xs ys : List ℕ) → Takes (raster m (samples_from t m xs)) a b → length xs + want ≤ count → RasterTaken m want b c (samples_from t m ys) → RasterRefused m count start a c OutOfMemory
-values_no_room t m count want start a b c xs ys took few taken =
-    room_refused m count want start a b c (samples_from t m xs) (samples_from t m ys) took (omega (arith, from_size t m xs, few)) taken
+pub values_no_workspace : (t : Form) (m count want start : ℕ) (a b c : TrayState) (xs ys : List ℕ) → Takes (raster m (samples_from t m xs)) a b → length xs + want ≤ count → RasterTaken m want b c (samples_from t m ys) → RasterRefused m count start a c OutOfMemory
+values_no_workspace t m count want start a b c xs ys took few taken =
+    workspace_refused m count want start a b c (samples_from t m xs) (samples_from t m ys) took (omega (arith, from_size t m xs, few)) taken
 
 -- a piece that is refused
-pub values_refused : (t : Form) (m count want start place : ℕ) (a b c : TrayState) (xs : List ℕ) (refusal : PlateRefusal) → Takes (raster m (samples_from t m xs)) a b → Fit m xs → length xs + want ≤ count → place ≡ start + length xs * sample_size m → RasterRefused m want place b c refusal → RasterRefused m count start a c refusal
-values_refused t m count want start place a b c xs refusal took fit few is r =
-    refused_on m count want start a b c (samples_from t m xs) refusal took (from_fit t m xs fit) (omega (arith, from_size t m xs, few))
-    (subst (λ (n : ℕ). RasterRefused m want n b c refusal) (is ∙ ap (λ (n : ℕ). start + n * sample_size m) (sym (from_size t m xs))) r)
+pub values_refused : (t : Form) (m count want start place : ℕ) (a b c : TrayState) (xs : List ℕ) (error : PlateError) → Takes (raster m (samples_from t m xs)) a b → Fit m xs → length xs + want ≤ count → place ≡ start + length xs * sample_size m → RasterRefused m want place b c error → RasterRefused m count start a c error
+values_refused t m count want start place a b c xs error took fit few is r =
+    refused_on m count want start a b c (samples_from t m xs) error took (from_fit t m xs fit) (omega (arith, from_size t m xs, few))
+    (subst (λ (n : ℕ). RasterRefused m want n b c error) (is ∙ ap (λ (n : ℕ). start + n * sample_size m) (sym (from_size t m xs))) r)
 
 -- values that are turned, and turned back
 pub turned_from : (m : ℕ) (xs ys : List ℕ) → ys ≡ map (λ (v : ℕ). m - v) xs → Fit m xs → (samples_from Tints m ys ≡ xs) × Fit m ys

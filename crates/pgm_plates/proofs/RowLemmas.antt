@@ -3,13 +3,13 @@ use Rattle.std.proofs.Common.{◌≡◌, ℕ, ◌≤◌, ◌+◌, ◌*◌, List,
 use Rattle.std.proofs.lemmas.List.{append_assoc, length-append, length-replicate, length-take-le, take_all}
 use Rattle.std.proofs.lemmas.List.Elements.{All-append}
 use borrow.Rule.Slice.PartMut.{put_mid}
-use Rattle.outside.specs.declared.tray.Failed.{Failed}
+use Rattle.outside.specs.declared.tray.DeviceError.{DeviceError}
 use Rattle.outside.specs.Tray.{TrayState, Begins}
 use Rattle.outside.specs.Reading.{Takes}
 use Rattle.outside.proofs.Steps.{takes_as, filled_more}
 use Rattle.pgm_plates.specs.declared.bounds.Bounds.{Bounds}
 use Rattle.pgm_plates.specs.declared.plate.Plate.{Plate}
-use Rattle.pgm_plates.specs.declared.plate.PlateRefusal.{PlateRefusal}
+use Rattle.pgm_plates.specs.declared.plate.PlateError.{PlateError}
 use Rattle.pgm_plates.specs.declared.rows.OpenPlate.{OpenPlate}
 use Rattle.pgm_plates.specs.Laws.{TopOfFileWithin}
 use Rattle.pgm_plates.specs.Plates.{sample_bytes, sample_size, raster}
@@ -38,13 +38,13 @@ filled_fit maxval want buf part done k le all fit more =
     subst (Fit maxval) (filled_on buf part done k want le all) (All-append (λ (s : ℕ). s ≤ maxval) (take done buf) part fit more)
 
 -- a buffer that is not filled
-pub filled_refused : (maxval count start place done want : ℕ) (a b c : TrayState) (buf : List ℕ) (refusal : PlateRefusal) → done ≤ length buf → done + want ≤ count → place ≡ start + done * sample_size maxval → Takes (raster maxval (take done buf)) a b → Fit maxval (take done buf) → RasterRefused maxval want place b c refusal → RasterRefused maxval count start a c refusal
-filled_refused maxval count start place done want a b c buf refusal le few is took fit r =
+pub filled_refused : (maxval count start place done want : ℕ) (a b c : TrayState) (buf : List ℕ) (error : PlateError) → done ≤ length buf → done + want ≤ count → place ≡ start + done * sample_size maxval → Takes (raster maxval (take done buf)) a b → Fit maxval (take done buf) → RasterRefused maxval want place b c error → RasterRefused maxval count start a c error
+filled_refused maxval count start place done want a b c buf error le few is took fit r =
     let size : length (take done buf) ≡ done = length-take-le done buf le in
-    refused_on maxval count want start a b c (take done buf) refusal took fit (omega arith)
-    (subst (λ (n : ℕ). RasterRefused maxval want n b c refusal) (is ∙ ap (λ (n : ℕ). start + n * sample_size maxval) (sym size)) r)
+    refused_on maxval count want start a b c (take done buf) error took fit (omega arith)
+    (subst (λ (n : ℕ). RasterRefused maxval want n b c error) (is ∙ ap (λ (n : ℕ). start + n * sample_size maxval) (sym size)) r)
 
--- Samples of which none is kept: so many more, and a refusal behind them.
+-- Samples of which none is kept: so many more, and a error behind them.
 abbrev pub Unkept : ℕ → ℕ → TrayState → TrayState → Type 0
 Unkept maxval count a b = (samples : List ℕ) × RasterTaken maxval count a b samples
 
@@ -61,10 +61,10 @@ unkept_more maxval done want a b c ys one more = (
   },
 )
 
-pub unkept_refused : (maxval count done want start place : ℕ) (a b c : TrayState) (refusal : PlateRefusal) → done + want ≤ count → place ≡ start + done * sample_size maxval → Unkept maxval done a b → RasterRefused maxval want place b c refusal → RasterRefused maxval count start a c refusal
-unkept_refused maxval count done want start place a b c refusal few is one r =
-    refused_on maxval count want start a b c one.0 refusal one.1.takes one.1.fit (omega (arith, one.1.all))
-    (subst (λ (n : ℕ). RasterRefused maxval want n b c refusal) (is ∙ ap (λ (n : ℕ). start + n * sample_size maxval) (sym one.1.all)) r)
+pub unkept_refused : (maxval count done want start place : ℕ) (a b c : TrayState) (error : PlateError) → done + want ≤ count → place ≡ start + done * sample_size maxval → Unkept maxval done a b → RasterRefused maxval want place b c error → RasterRefused maxval count start a c error
+unkept_refused maxval count done want start place a b c error few is one r =
+    refused_on maxval count want start a b c one.0 error one.1.takes one.1.fit (omega (arith, one.1.all))
+    (subst (λ (n : ℕ). RasterRefused maxval want n b c error) (is ∙ ap (λ (n : ℕ). start + n * sample_size maxval) (sym one.1.all)) r)
 
 module _ (bounds : Bounds) where
   header_read : (name : List ℕ) (a b : TrayState) (plate : OpenPlate) (samples : List ℕ) (has : HasRead bounds name a b plate samples) → HeaderRead bounds has.begun has.headed plate.header plate.size
@@ -87,12 +87,12 @@ module _ (bounds : Bounds) where
       }
 
   -- what the whole reading answers, by what was answered since the file was begun
-  reads_whole : (name : List ℕ) (a b c : TrayState) (plate : OpenPlate) (samples : List ℕ) (has : HasRead bounds name a b plate samples) (refusal : PlateRefusal) → Answers bounds has.begun c (Err refusal) → KeepsCount {T = Unit {0}} b c (Err refusal) → ReadsPlateWithin bounds name a c (Err refusal)
-  reads_whole name a b c plate samples has refusal answers count =
-      begun_then bounds name a has.begun c tt (Err refusal) has.begins answers
-      (kept_count {T = Plate} has.begun b c (Err refusal) (has.count ∙ sym has.begins.well) (refused_count (Unit {0}) Plate b b c refusal refl count))
+  reads_whole : (name : List ℕ) (a b c : TrayState) (plate : OpenPlate) (samples : List ℕ) (has : HasRead bounds name a b plate samples) (error : PlateError) → Answers bounds has.begun c (Err error) → KeepsCount {T = Unit {0}} b c (Err error) → ReadsPlateWithin bounds name a c (Err error)
+  reads_whole name a b c plate samples has error answers count =
+      begun_then bounds name a has.begun c tt (Err error) has.begins answers
+      (kept_count {T = Plate} has.begun b c (Err error) (has.count ∙ sym has.begins.well) (refused_count (Unit {0}) Plate b b c error refl count))
 
-  pub header_begun : (name : List ℕ) (a b c : TrayState) (plate : OpenPlate) → Begins {T = Unit {0}} {E = Failed} name a b (Ok tt) → HeaderRead bounds b c plate.header plate.size → c.faults ≡ b.faults → HasRead bounds name a c plate []
+  pub header_begun : (name : List ℕ) (a b c : TrayState) (plate : OpenPlate) → Begins {T = Unit {0}} {E = DeviceError} name a b (Ok tt) → HeaderRead bounds b c plate.header plate.size → c.faults ≡ b.faults → HasRead bounds name a c plate []
   header_begun name a b c plate begins read count = record {
     begun = b;
     begins = begins;
@@ -109,12 +109,12 @@ module _ (bounds : Bounds) where
     count = count ∙ begins.well;
   }
 
-  pub header_refused : (name : List ℕ) (a b c : TrayState) (refusal : PlateRefusal) → Begins {T = Unit {0}} {E = Failed} name a b (Ok tt) → Answers bounds b c (Err refusal) → KeepsCount {T = OpenPlate} b c (Err refusal) → ReadsPlateWithin bounds name a c (Err refusal)
-  header_refused name a b c refusal begins answers count = begun_then bounds name a b c tt (Err refusal) begins answers (refused_count OpenPlate Plate b b c refusal refl count)
+  pub header_refused : (name : List ℕ) (a b c : TrayState) (error : PlateError) → Begins {T = Unit {0}} {E = DeviceError} name a b (Ok tt) → Answers bounds b c (Err error) → KeepsCount {T = OpenPlate} b c (Err error) → ReadsPlateWithin bounds name a c (Err error)
+  header_refused name a b c error begins answers count = begun_then bounds name a b c tt (Err error) begins answers (refused_count OpenPlate Plate b b c error refl count)
 
-  pub plate_begun : (name : List ℕ) (a b c : TrayState) (result : Result OpenPlate PlateRefusal) → Begins {T = Unit {0}} {E = Failed} name a b (Ok tt) → OpensPlate bounds b c result → KeepsCount b c result → BeginsPlate bounds name a c result
+  pub plate_begun : (name : List ℕ) (a b c : TrayState) (result : Result OpenPlate PlateError) → Begins {T = Unit {0}} {E = DeviceError} name a b (Ok tt) → OpensPlate bounds b c result → KeepsCount b c result → BeginsPlate bounds name a c result
   plate_begun name a b c (Ok plate) begins read count = header_begun name a b c plate begins read count
-  plate_begun name a b c (Err refusal) begins answers count = header_refused name a b c refusal begins answers count
+  plate_begun name a b c (Err error) begins answers count = header_refused name a b c error begins answers count
 
   rows_read : (name : List ℕ) (a b c : TrayState) (plate : OpenPlate) (samples rows : List ℕ) → HasRead bounds name a b plate samples → length samples + length rows ≤ samples_of plate.header → RasterTaken plate.header.maxval (length rows) b c rows → c.faults ≡ b.faults → HasRead bounds name a c plate (samples ++ rows)
   rows_read name a b c plate samples rows has few taken count =
@@ -135,11 +135,11 @@ module _ (bounds : Bounds) where
         count = count ∙ has.count;
       }
 
-  rows_refused : (name : List ℕ) (a b c : TrayState) (plate : OpenPlate) (samples rows : List ℕ) (refusal : PlateRefusal) → HasRead bounds name a b plate samples → length samples + length rows ≤ samples_of plate.header → RasterRefused plate.header.maxval (length rows) (plate.size + length samples * sample_size plate.header.maxval) b c refusal → KeepsCount {T = Unit {0}} b c (Err refusal) → ReadsPlateWithin bounds name a c (Err refusal)
-  rows_refused name a b c plate samples rows refusal has few refused count =
-      reads_whole name a b c plate samples has refusal
-      (raster_refused bounds has.begun has.headed c plate.header plate.size refusal (header_read name a b plate samples has)
-      (refused_on plate.header.maxval (samples_of plate.header) (length rows) plate.size has.headed b c samples refusal has.rows has.fit few refused))
+  rows_refused : (name : List ℕ) (a b c : TrayState) (plate : OpenPlate) (samples rows : List ℕ) (error : PlateError) → HasRead bounds name a b plate samples → length samples + length rows ≤ samples_of plate.header → RasterRefused plate.header.maxval (length rows) (plate.size + length samples * sample_size plate.header.maxval) b c error → KeepsCount {T = Unit {0}} b c (Err error) → ReadsPlateWithin bounds name a c (Err error)
+  rows_refused name a b c plate samples rows error has few refused count =
+      reads_whole name a b c plate samples has error
+      (raster_refused bounds has.begun has.headed c plate.header plate.size error (header_read name a b plate samples has)
+      (refused_on plate.header.maxval (samples_of plate.header) (length rows) plate.size has.headed b c samples error has.rows has.fit few refused))
       count
 
   all_read : (name : List ℕ) (a b : TrayState) (plate : OpenPlate) (samples : List ℕ) (has : HasRead bounds name a b plate samples) → length samples ≡ samples_of plate.header → RasterTaken plate.header.maxval (samples_of plate.header) has.headed b samples
@@ -151,29 +151,29 @@ module _ (bounds : Bounds) where
       (plate_read bounds has.begun has.headed b c plate.header plate.size samples (header_read name a b plate samples has) (all_read name a b plate samples has all) ends)
       (count ∙ has.count ∙ sym has.begins.well)
 
-  plate_refused : (name : List ℕ) (a b c : TrayState) (plate : OpenPlate) (samples : List ℕ) (refusal : PlateRefusal) → HasRead bounds name a b plate samples → length samples ≡ samples_of plate.header → EndsFile (plate.size + samples_of plate.header * sample_size plate.header.maxval) b c (Err refusal) → KeepsCount {T = Unit {0}} b c (Err refusal) → ReadsPlateWithin bounds name a c (Err refusal)
-  plate_refused name a b c plate samples refusal has all ends count =
-      reads_whole name a b c plate samples has refusal
-      (end_refused bounds has.begun has.headed b c plate.header plate.size (plate.size + samples_of plate.header * sample_size plate.header.maxval) samples refusal (header_read name a b plate samples has) (all_read name a b plate samples has all) refl ends)
+  plate_refused : (name : List ℕ) (a b c : TrayState) (plate : OpenPlate) (samples : List ℕ) (error : PlateError) → HasRead bounds name a b plate samples → length samples ≡ samples_of plate.header → EndsFile (plate.size + samples_of plate.header * sample_size plate.header.maxval) b c (Err error) → KeepsCount {T = Unit {0}} b c (Err error) → ReadsPlateWithin bounds name a c (Err error)
+  plate_refused name a b c plate samples error has all ends count =
+      reads_whole name a b c plate samples has error
+      (end_refused bounds has.begun has.headed b c plate.header plate.size (plate.size + samples_of plate.header * sample_size plate.header.maxval) samples error (header_read name a b plate samples has) (all_read name a b plate samples has all) refl ends)
       count
 
-pub rows_answered : (plate : OpenPlate) (done start : ℕ) (rows : List ℕ) (b c : TrayState) (result : Result (Unit {0}) PlateRefusal) → start ≡ plate.size + done * sample_size plate.header.maxval → ReadsPiece plate.header.maxval (length rows) start b c result rows → KeepsCount b c result → ReadsRows plate done rows b c result
+pub rows_answered : (plate : OpenPlate) (done start : ℕ) (rows : List ℕ) (b c : TrayState) (result : Result (Unit {0}) PlateError) → start ≡ plate.size + done * sample_size plate.header.maxval → ReadsPiece plate.header.maxval (length rows) start b c result rows → KeepsCount b c result → ReadsRows plate done rows b c result
 rows_answered plate done start rows b c (Ok x) place piece count bounds name a samples has same few = rows_read bounds name a b c plate samples rows has (omega (arith, same, few)) piece count
-rows_answered plate done start rows b c (Err refusal) place piece count bounds name a samples has same few =
-    rows_refused bounds name a b c plate samples rows refusal has (omega (arith, same, few))
-    (subst (λ (n : ℕ). RasterRefused plate.header.maxval (length rows) n b c refusal) (place ∙ ap (λ (n : ℕ). plate.size + n * sample_size plate.header.maxval) (sym same)) piece) count
+rows_answered plate done start rows b c (Err error) place piece count bounds name a samples has same few =
+    rows_refused bounds name a b c plate samples rows error has (omega (arith, same, few))
+    (subst (λ (n : ℕ). RasterRefused plate.header.maxval (length rows) n b c error) (place ∙ ap (λ (n : ℕ). plate.size + n * sample_size plate.header.maxval) (sym same)) piece) count
 
-pub unkept_answered : (plate : OpenPlate) (done count start : ℕ) (b c : TrayState) (result : Result (Unit {0}) PlateRefusal) → start ≡ plate.size + done * sample_size plate.header.maxval → ReadsUnkept plate.header.maxval count start b c result → KeepsCount b c result → ReadsSome plate done count b c result
+pub unkept_answered : (plate : OpenPlate) (done count start : ℕ) (b c : TrayState) (result : Result (Unit {0}) PlateError) → start ≡ plate.size + done * sample_size plate.header.maxval → ReadsUnkept plate.header.maxval count start b c result → KeepsCount b c result → ReadsSome plate done count b c result
 unkept_answered plate done count start b c (Ok x) place read kept =
     (read.0, read.1.all, rows_answered plate done start read.0 b c (Ok x) place (taken_as plate.header.maxval count b c read.0 read.0 refl read.1) kept)
-unkept_answered plate done count start b c (Err refusal) place read kept =
+unkept_answered plate done count start b c (Err error) place read kept =
     let long = length-replicate count 0 in
-    (replicate count 0, long, rows_answered plate done start (replicate count 0) b c (Err refusal) place (subst (λ (n : ℕ). RasterRefused plate.header.maxval n start b c refusal) (sym long) read.1) kept)
+    (replicate count 0, long, rows_answered plate done start (replicate count 0) b c (Err error) place (subst (λ (n : ℕ). RasterRefused plate.header.maxval n start b c error) (sym long) read.1) kept)
 
-pub end_answered : (plate : OpenPlate) (at : ℕ) (b c : TrayState) (result : Result (Unit {0}) PlateRefusal) → at ≡ plate.size + samples_of plate.header * sample_size plate.header.maxval → EndsFile at b c result → KeepsCount b c result → EndsPlate plate b c result
+pub end_answered : (plate : OpenPlate) (at : ℕ) (b c : TrayState) (result : Result (Unit {0}) PlateError) → at ≡ plate.size + samples_of plate.header * sample_size plate.header.maxval → EndsFile at b c result → KeepsCount b c result → EndsPlate plate b c result
 end_answered plate at b c (Ok x) place ends count bounds name a samples has all = plate_ended bounds name a b c plate samples x has all ends count
-end_answered plate at b c (Err refusal) place ends count bounds name a samples has all =
-    plate_refused bounds name a b c plate samples refusal has all (subst (λ (n : ℕ). EndsFile n b c (Err refusal)) place ends) count
+end_answered plate at b c (Err error) place ends count bounds name a samples has all =
+    plate_refused bounds name a b c plate samples error has all (subst (λ (n : ℕ). EndsFile n b c (Err error)) place ends) count
 
 -- Samples whose bytes begin those of others are the first of these.
 first_samples : (m : ℕ) (xs ys l : List ℕ) → length xs ≤ length ys → raster m xs ++ l ≡ raster m ys → xs ≡ take (length xs) ys
@@ -190,9 +190,9 @@ pub top_of_file : (bounds : Bounds) → TopOfFileWithin bounds
 top_of_file bounds name a b plate samples all whole has tells found file =
     let m = plate.header.maxval in
     let back = raster m samples ++ b.left in
-    let told : IsTrue has.begun.tells = has.begins.keeps.tells ∙ tells in
+    let reported : IsTrue has.begun.tells = has.begins.keeps.tells ∙ tells in
     let bytes : all ≡ has.spelling ++ back = some_bytes all (has.spelling ++ back)
-    (sym found ∙ has.begins.left tells ∙ ap (λ (x : List ℕ). Some x) (has.head.taken told ∙ ap (λ (x : List ℕ). has.spelling ++ x) (has.rows.taken (has.head.keeps.tells ∙ told)))) in
+    (sym found ∙ has.begins.left tells ∙ ap (λ (x : List ℕ). Some x) (has.head.taken reported ∙ ap (λ (x : List ℕ). has.spelling ++ x) (has.rows.taken (has.head.keeps.tells ∙ reported)))) in
     let same = one_header has.spelling back file.header (raster whole.maxval whole.samples) plate.header.width plate.header.height m whole.width whole.height whole.maxval has.is_header file.is_header (sym bytes ∙ file.whole) in
     let count : length whole.samples ≡ samples_of plate.header = file.plate_ok.count ∙ ap (λ (n : ℕ). n * whole.height) (sym same.width) ∙ ap (λ (n : ℕ). plate.header.width * n) (sym same.height) in
     record {

@@ -1,8 +1,8 @@
 -- Plate files that are read one after the other.
 use Rattle.std.proofs.Common.{◌≡◌, ◌≢◌, ℕ, zero, suc, ◌<◌, ◌≤◌, ◌+◌, ◌*◌, ◌^◌, true, false, List, [], ◌∷◌, ◌++◌, length, Option, Some, None, Result, Ok, Err, IsTrue, refl, sym, ap, ◌∙◌, subst, inl, inr, arith}
 use Rattle.std.proofs.lemmas.List.{append_assoc, append-nil, length-append, length_push}
-use Rattle.outside.specs.declared.tray.Failed.{Failed}
-use Rattle.outside.specs.Causes.{Asks}
+use Rattle.outside.specs.declared.tray.DeviceError.{DeviceError}
+use Rattle.outside.specs.ErrorCases.{Asks}
 use Rattle.outside.specs.Tray.{TrayState, KeepsTray, Begins}
 use Rattle.outside.proofs.Steps.{kept_tray, takes_then, rose_before}
 use Rattle.pgm_plates.specs.declared.bounds.Bounds.TheVariants.{Page}
@@ -10,15 +10,15 @@ use Rattle.pgm_plates.specs.declared.header.Header.{Header}
 use Rattle.pgm_plates.specs.declared.plate.Plate.{Plate}
 use Rattle.pgm_plates.specs.declared.plate.PlateFault.{PlateFault}
 use Rattle.pgm_plates.specs.declared.plate.PlateFault.TheVariants.{BadMagic, BadHeader, SideRange, TooManySamples, MaxvalRange, SampleAboveMaxval, Truncated, TrailingBytes}
-use Rattle.pgm_plates.specs.declared.plate.PlateRefusal.{PlateRefusal}
-use Rattle.pgm_plates.specs.declared.plate.PlateRefusal.TheVariants.{Fault, ReadFault, OutOfMemory}
+use Rattle.pgm_plates.specs.declared.plate.PlateError.{PlateError}
+use Rattle.pgm_plates.specs.declared.plate.PlateError.TheVariants.{Fault, ReadFault, OutOfMemory}
 use Rattle.pgm_plates.specs.declared.values.Values.{Values}
 use Rattle.pgm_plates.specs.Plates.{IsPlateFile, raster, sample_size}
-use Rattle.pgm_plates.specs.Images.{IsNear, IsNearRefusal, ReadsImage, Passed, PageAnswers, further_refusal}
+use Rattle.pgm_plates.specs.Images.{IsNear, IsNearError, ReadsImage, Passed, PageAnswers, further_error}
 use Rattle.pgm_plates.specs.Reading.{AreFew, KeepsCount}
 use Rattle.pgm_plates.specs.Readers.{Answers, HeaderRead, RasterTaken}
 use Rattle.pgm_plates.specs.Sequences.{IsSequence, StandsAfter, IsOfImage, AnswersPage, ReadsPage, further}
-use Rattle.pgm_plates.proofs.Headers.{takes_none, told_on, scanned_none, fresh}
+use Rattle.pgm_plates.proofs.Headers.{takes_none, reported_on, scanned_none, fresh}
 use Rattle.pgm_plates.proofs.Moments.{clean_none, clean_all, only_truncated}
 use Rattle.pgm_plates.proofs.Scans.{quiet}
 use Rattle.pgm_plates.proofs.Wholes.{few_after, file_of, no_shape, raster_within, kept_count}
@@ -71,8 +71,8 @@ page_found a b c page count start size plate same passed image = record {
 few_none : AreFew []
 few_none = inl (omega arith, no_shape)
 
-abbrev refusing : PlateRefusal → Result (Option (Values × ℕ)) PlateRefusal
-refusing refusal = Err refusal
+abbrev refusing : PlateError → Result (Option (Values × ℕ)) PlateError
+refusing error = Err error
 
 some_place : (at : ℕ) → refusing (Fault (Truncated at)) ≢ refusing (Fault (Truncated 0)) → 0 < at
 some_place zero not_none = absurd (not_none refl)
@@ -88,8 +88,8 @@ of_image (SampleAboveMaxval at) near some = tt
 of_image (Truncated at) near some = some_place at some
 of_image (TrailingBytes at) near some = absurd near
 
-pub page_refused : (a b c : TrayState) (page count start : ℕ) (refusal : PlateRefusal) → count ≤ page → Passed a b count start → Answers Page b c (Err refusal) → IsNearRefusal refusal → refusing refusal ≢ refusing (Fault (Truncated 0))
-    → PageAnswers page a c (Err (further_refusal start refusal))
+pub page_refused : (a b c : TrayState) (page count start : ℕ) (error : PlateError) → count ≤ page → Passed a b count start → Answers Page b c (Err error) → IsNearError error → refusing error ≢ refusing (Fault (Truncated 0))
+    → PageAnswers page a c (Err (further_error start error))
 page_refused a b c page count start (Fault fault) le passed answers near some = record {
   bytes = passed.bytes ++ answers.bytes;
   takes = takes_then passed.bytes answers.bytes a b c passed.takes answers.takes;
@@ -102,7 +102,7 @@ page_refused a b c page count start (Fault fault) le passed answers near some = 
     answers.answer.1,
     of_image fault near some,
     ap (λ (n : ℕ). further n fault) (sym passed.sized),
-    λ cut tells. answers.answer.2 cut (told_on passed.bytes a b passed.takes tells),
+    λ cut tells. answers.answer.2 cut (reported_on passed.bytes a b passed.takes tells),
   );
 }
 page_refused a b c page count start ReadFault le passed answers near some = record {
@@ -123,14 +123,14 @@ page_refused a b c page count start OutOfMemory le passed answers near some = re
   answer = answers.takes.begun;
 }
 
-answers_from : (a b c : TrayState) (page : ℕ) (bytes : List ℕ) (result : Result (Option Plate) PlateRefusal) → KeepsTray a b → AnswersPage page bytes b c result → AnswersPage page bytes a c result
+answers_from : (a b c : TrayState) (page : ℕ) (bytes : List ℕ) (result : Result (Option Plate) PlateError) → KeepsTray a b → AnswersPage page bytes b c result → AnswersPage page bytes a c result
 answers_from a b c page bytes (Ok (Some plate)) keeps answer = answer
 answers_from a b c page bytes (Ok None) keeps answer = (answer.0, answer.1, λ tells. answer.2 (keeps.tells ∙ tells))
 answers_from a b c page bytes (Err (Fault fault)) keeps answer = (answer.0, answer.1, answer.2, answer.3, answer.4, answer.5, answer.6, λ cut tells. answer.7 cut (keeps.tells ∙ tells))
 answers_from a b c page bytes (Err ReadFault) keeps answer = (rose_before a.faults b.faults c.faults keeps.faults answer.0, answer.1, answer.2, answer.3)
 answers_from a b c page bytes (Err OutOfMemory) keeps answer = answer
 
-pub page_begun : (name : List ℕ) (page : ℕ) (a b c : TrayState) (x : Unit {0}) (result : Result (Option Plate) PlateRefusal) → Begins {E = Failed} name a b (Ok x) → PageAnswers page b c result → KeepsCount b c result → ReadsPage name page a c result
+pub page_begun : (name : List ℕ) (page : ℕ) (a b c : TrayState) (x : Unit {0}) (result : Result (Option Plate) PlateError) → Begins {E = DeviceError} name a b (Ok x) → PageAnswers page b c result → KeepsCount b c result → ReadsPage name page a c result
 page_begun name page a b c x result begun answers count = record {
   keeps = kept_tray a b c begun.keeps answers.takes.keeps;
   asked = subst (λ o. Asks a.asked o (name ∷ [])) (sym answers.takes.asked) begun.asked;
@@ -152,7 +152,7 @@ page_not_begun name page a b e begun = record {
   taken = λ is tells. absurd (let no : true ≡ false = sym is ∙ begun.begun in cc);
   few = ([], no_images page, few_none);
   answer = (
-    begun.cause,
+    begun.reason,
     [],
     no_images page,
     only_truncated Page [] (clean_all Page [] (clean_none Page) (quiet Page [] fresh scanned_none (inr (omega arith)))),

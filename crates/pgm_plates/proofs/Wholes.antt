@@ -3,8 +3,8 @@ use Rattle.std.proofs.Common.{◌≡◌, ℕ, ◌<◌, ◌≤◌, ◌+◌, ◌*�
 use Rattle.std.proofs.lemmas.List.{append_assoc, append-nil, length-append, length_push}
 use Rattle.std.proofs.Math.Nat.{mul-le-mul_right}
 use Rattle.std.proofs.Math.Seq.{take-append_seam}
-use Rattle.outside.specs.declared.tray.Failed.{Failed}
-use Rattle.outside.specs.Causes.{Asks}
+use Rattle.outside.specs.declared.tray.DeviceError.{DeviceError}
+use Rattle.outside.specs.ErrorCases.{Asks}
 use Rattle.outside.specs.Tray.{TrayState, KeepsTray, Begins}
 use Rattle.outside.specs.Reading.{Takes}
 use Rattle.outside.proofs.Steps.{kept_tray, takes_then, rose_before}
@@ -12,8 +12,8 @@ use Rattle.pgm_plates.specs.declared.bounds.Bounds.{Bounds}
 use Rattle.pgm_plates.specs.declared.header_state.HeaderState.TheVariants.{Start, Ended}
 use Rattle.pgm_plates.specs.declared.plate.Plate.{Plate}
 use Rattle.pgm_plates.specs.declared.plate.PlateFault.TheVariants.{BadMagic, BadHeader, SideRange, TooManySamples, MaxvalRange, SampleAboveMaxval, Truncated, TrailingBytes}
-use Rattle.pgm_plates.specs.declared.plate.PlateRefusal.{PlateRefusal}
-use Rattle.pgm_plates.specs.declared.plate.PlateRefusal.TheVariants.{Fault, ReadFault, OutOfMemory}
+use Rattle.pgm_plates.specs.declared.plate.PlateError.{PlateError}
+use Rattle.pgm_plates.specs.declared.plate.PlateError.TheVariants.{Fault, ReadFault, OutOfMemory}
 use Rattle.pgm_plates.specs.declared.header.Header.{Header}
 use Rattle.pgm_plates.specs.Header.{IsHeader}
 use Rattle.pgm_plates.specs.Plates.{IsPlateFileWithin, sample_bytes, sample_size, raster}
@@ -24,7 +24,7 @@ use Rattle.pgm_plates.specs.Scanning.{IsClean}
 use Rattle.pgm_plates.specs.Readers.{Answers, HeaderRead, Fit, IsPart, RasterRefused, RasterTaken, EndsFile}
 use Rattle.pgm_plates.proofs.Shapes.{one_header}
 use Rattle.pgm_plates.proofs.Moments.{clean_none, clean_all, clean_push, decided, truncated, only_truncated}
-use Rattle.pgm_plates.proofs.Headers.{takes_nil, told_on, scanned_none_within, fresh}
+use Rattle.pgm_plates.proofs.Headers.{takes_nil, reported_on, scanned_none_within, fresh}
 use Rattle.pgm_plates.proofs.HeaderRun.{unended}
 use Rattle.pgm_plates.proofs.Scans.{quiet}
 use Rattle.pgm_plates.proofs.Decisions.{Rastered, some_size, raster_size, clean_raster}
@@ -77,7 +77,7 @@ no_shape = unended Start [] [] refl (λ e. let f : Start ≡ Ended = e in cc)
 
 -- The file is begun, and then read.
 -- a count that stayed before it, too
-pub kept_count : {T : Type 0} (a b c : TrayState) (result : Result T PlateRefusal) → b.faults ≡ a.faults → KeepsCount b c result → KeepsCount a c result
+pub kept_count : {T : Type 0} (a b c : TrayState) (result : Result T PlateError) → b.faults ≡ a.faults → KeepsCount b c result → KeepsCount a c result
 kept_count a b c (Ok x) before count = count ∙ before
 kept_count a b c (Err ReadFault) before count = tt
 kept_count a b c (Err OutOfMemory) before count = count ∙ before
@@ -122,7 +122,7 @@ module _ (bounds : Bounds) where
         few = omega arith;
       }))
 
-  pub raster_refused : (a b c : TrayState) (header : Header) (start : ℕ) (refusal : PlateRefusal) → HeaderRead bounds a b header start → RasterRefused header.maxval (header.width * header.height) start b c refusal → Answers bounds a c (Err refusal)
+  pub raster_refused : (a b c : TrayState) (header : Header) (start : ℕ) (error : PlateError) → HeaderRead bounds a b header start → RasterRefused header.maxval (header.width * header.height) start b c error → Answers bounds a c (Err error)
   raster_refused a b c header start (Fault (SampleAboveMaxval at)) read r =
       let bytes = r.0 in
       let above = r.3 in
@@ -173,7 +173,7 @@ module _ (bounds : Bounds) where
         answer = (
           r.1.begun,
           subst (λ (n : ℕ). IsFaultWithin bounds all (Truncated n)) place (truncated bounds all (clean_raster bounds all read.bytes w h m r.2.samples r.2.half read.clean (rastered_part read.bytes bytes w h m read.is_header r.2)) (not_whole read.bytes bytes w h m read.is_header r.3)),
-          λ cut tells. r.5 (told_on read.bytes a b read.takes tells),
+          λ cut tells. r.5 (reported_on read.bytes a b read.takes tells),
         );
       }
   raster_refused a b c header start ReadFault read r =
@@ -207,7 +207,7 @@ module _ (bounds : Bounds) where
   raster_refused a b c header start (Fault (MaxvalRange at)) read r = absurd r
   raster_refused a b c header start (Fault (TrailingBytes at)) read r = absurd r
 
-  pub end_refused : (a b c d : TrayState) (header : Header) (start at : ℕ) (samples : List ℕ) (refusal : PlateRefusal) → HeaderRead bounds a b header start → RasterTaken header.maxval (header.width * header.height) b c samples → at ≡ start + header.width * header.height * sample_size header.maxval → EndsFile at c d (Err refusal) → Answers bounds a d (Err refusal)
+  pub end_refused : (a b c d : TrayState) (header : Header) (start at : ℕ) (samples : List ℕ) (error : PlateError) → HeaderRead bounds a b header start → RasterTaken header.maxval (header.width * header.height) b c samples → at ≡ start + header.width * header.height * sample_size header.maxval → EndsFile at c d (Err error) → Answers bounds a d (Err error)
   end_refused a b c d header start at samples (Fault (TrailingBytes place)) read taken is r =
       let last = r.0 in
       let w = header.width in
@@ -301,17 +301,17 @@ module _ (bounds : Bounds) where
         answer = (
           end.0.begun,
           file_of a b c header start samples read taken,
-          λ tells. end.1 (told_on prefix a c so_far tells),
+          λ tells. end.1 (reported_on prefix a c so_far tells),
         );
       }
 
-  answers_from : (a b c : TrayState) (bytes : List ℕ) (result : Result Plate PlateRefusal) → KeepsTray a b → AnswersPlate bounds bytes b c result → AnswersPlate bounds bytes a c result
+  answers_from : (a b c : TrayState) (bytes : List ℕ) (result : Result Plate PlateError) → KeepsTray a b → AnswersPlate bounds bytes b c result → AnswersPlate bounds bytes a c result
   answers_from a b c bytes (Ok plate) keeps answer = (answer.0, answer.1, λ tells. answer.2 (keeps.tells ∙ tells))
   answers_from a b c bytes (Err (Fault fault)) keeps answer = (answer.0, answer.1, λ cut tells. answer.2 cut (keeps.tells ∙ tells))
   answers_from a b c bytes (Err ReadFault) keeps answer = (rose_before a.faults b.faults c.faults keeps.faults answer.0, answer.1)
   answers_from a b c bytes (Err OutOfMemory) keeps answer = answer
 
-  pub begun_then : (name : List ℕ) (a b c : TrayState) (x : Unit {0}) (result : Result Plate PlateRefusal) → Begins {E = Failed} name a b (Ok x) → Answers bounds b c result → KeepsCount b c result → ReadsPlateWithin bounds name a c result
+  pub begun_then : (name : List ℕ) (a b c : TrayState) (x : Unit {0}) (result : Result Plate PlateError) → Begins {E = DeviceError} name a b (Ok x) → Answers bounds b c result → KeepsCount b c result → ReadsPlateWithin bounds name a c result
   begun_then name a b c x result begun answers count = record {
     keeps = kept_tray a b c begun.keeps answers.takes.keeps;
     asked = subst (λ o. Asks a.asked o (name ∷ [])) (sym answers.takes.asked) begun.asked;
@@ -329,6 +329,6 @@ module _ (bounds : Bounds) where
     bytes = [];
     taken = λ is tells. absurd (let no : true ≡ false = sym is ∙ begun.begun in cc);
     few = inl (omega arith, no_shape);
-    answer = (begun.cause, only_truncated bounds [] (clean_all bounds [] (clean_none bounds) (quiet bounds [] fresh (scanned_none_within bounds) (inr (omega arith)))));
+    answer = (begun.reason, only_truncated bounds [] (clean_all bounds [] (clean_none bounds) (quiet bounds [] fresh (scanned_none_within bounds) (inr (omega arith)))));
     count = tt;
   }

@@ -1,7 +1,7 @@
 -- A plate that is written row by row: what each of its calls makes of what was written so far.
 use Rattle.std.proofs.Common.{◌≡◌, ℕ, ◌-◌, List, [], ◌++◌, map, Result, Ok, Err, sym, ap, ◌∙◌, subst}
 use Rattle.std.proofs.lemmas.List.{append_assoc, append-nil, map-append}
-use Rattle.outside.specs.declared.tray.Failed.{Failed}
+use Rattle.outside.specs.declared.tray.DeviceError.{DeviceError}
 use Rattle.outside.specs.Rack.{RackState, Creates, Finishes}
 use Rattle.outside.specs.Writing.{FillsFile, WritesOn, WritesFile}
 use Rattle.outside.proofs.Steps.{created_then_filled, writes_as, writes_stopped, writes_then, written_then_finished}
@@ -12,7 +12,7 @@ use Rattle.pgm_plates.specs.Rows.{BeginsImage, EndsImage, WritesRows, plane_with
 use Rattle.pgm_plates.proofs.Decisions.{raster_both}
 
 abbrev Answer : Type 0
-Answer = Result (Unit {0}) Failed
+Answer = Result (Unit {0}) DeviceError
 
 -- the samples of some tints
 abbrev turned : Header → List ℕ → List ℕ
@@ -29,11 +29,11 @@ spelled_on header tints rows =
     ∙ ap (λ (x : List ℕ). head header ++ x) (sym (raster_both m (turned header tints) (turned header rows)) ∙ ap (raster m) (sym (map-append (λ (t : ℕ). m - t) tints rows)))
 
 -- What fails on an open file leaves it unfinished.
-stops : (bytes : List ℕ) (a b : RackState) (e : Failed) → WritesOn {T = Unit {0}} {E = Failed} bytes a b (Err e) → FillsFile {T = Unit {0}} {E = Failed} bytes a b (Err e)
+stops : (bytes : List ℕ) (a b : RackState) (e : DeviceError) → WritesOn {T = Unit {0}} {E = DeviceError} bytes a b (Err e) → FillsFile {T = Unit {0}} {E = DeviceError} bytes a b (Err e)
 stops bytes a b e wrote = record {
   keeps = wrote.keeps;
   asked = wrote.asked;
-  told = wrote.told;
+  reported = wrote.reported;
   shut = tt;
   finished = tt;
   unfinished = wrote.finished;
@@ -41,14 +41,14 @@ stops bytes a b e wrote = record {
   files = tt;
   part = wrote.part;
   well = tt;
-  cause = wrote.cause;
+  reason = wrote.reason;
   once = wrote.once;
 }
 
-broken : (name bytes more : List ℕ) (a b c : RackState) (e : Failed) → Creates {T = Unit {0}} {E = Failed} name a b (Ok tt) → WritesOn {T = Unit {0}} {E = Failed} bytes b c (Err e) → WritesFile {T = Unit {0}} {E = Failed} name (bytes ++ more) a c (Err e)
+broken : (name bytes more : List ℕ) (a b c : RackState) (e : DeviceError) → Creates {T = Unit {0}} {E = DeviceError} name a b (Ok tt) → WritesOn {T = Unit {0}} {E = DeviceError} bytes b c (Err e) → WritesFile {T = Unit {0}} {E = DeviceError} name (bytes ++ more) a c (Err e)
 broken name bytes more a b c e creates wrote = created_then_filled name (bytes ++ more) a b c tt (Err e) creates (stops (bytes ++ more) b c e (writes_stopped bytes more b c e e wrote))
 
-pub image_begun : (name : List ℕ) (header : Header) (a b c : RackState) (result : Answer) → Creates {T = Unit {0}} {E = Failed} name a b (Ok tt) → WritesOn (head header) b c result → BeginsImage name header a c result
+pub image_begun : (name : List ℕ) (header : Header) (a b c : RackState) (result : Answer) → Creates {T = Unit {0}} {E = DeviceError} name a b (Ok tt) → WritesOn (head header) b c result → BeginsImage name header a c result
 image_begun name header a b c (Ok done) creates wrote = record {
   created = b;
   creates = creates;
@@ -69,7 +69,7 @@ rows_written header rows b c (Err e) wrote = λ name tints more start has.
     let m = header.maxval in
     let all : spelled_so_far header tints ++ (raster m (turned header rows)) ++ raster m (turned header more) ≡ spelled_so_far header (tints ++ (rows ++ more)) =
     ap (λ (x : List ℕ). x ++ raster m (turned header more)) (spelled_on header tints rows) ∙ spelled_on header (tints ++ rows) more ∙ ap (spelled_so_far header) (append_assoc tints rows more) in
-    subst (λ (x : List ℕ). WritesFile {T = Unit {0}} {E = Failed} name x start c (Err e)) all
+    subst (λ (x : List ℕ). WritesFile {T = Unit {0}} {E = DeviceError} name x start c (Err e)) all
     (broken name (spelled_so_far header tints ++ raster m (turned header rows)) (raster m (turned header more)) start has.created c e has.creates
     (writes_then (spelled_so_far header tints) (raster m (turned header rows)) has.created b c tt (Err e) has.writes wrote))
 

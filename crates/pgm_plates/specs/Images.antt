@@ -10,8 +10,8 @@ use Rattle.pgm_plates.specs.declared.plate.PlateFault.TheVariants.{BadMagic, Bad
 use Rattle.pgm_plates.specs.declared.plate.PlateFault.TheVariants.{TooManySamples, MaxvalRange}
 use Rattle.pgm_plates.specs.declared.plate.PlateFault.TheVariants.{SampleAboveMaxval, Truncated}
 use Rattle.pgm_plates.specs.declared.plate.PlateFault.TheVariants.{TrailingBytes}
-use Rattle.pgm_plates.specs.declared.plate.PlateRefusal.{PlateRefusal}
-use Rattle.pgm_plates.specs.declared.plate.PlateRefusal.TheVariants.{Fault, ReadFault, OutOfMemory}
+use Rattle.pgm_plates.specs.declared.plate.PlateError.{PlateError}
+use Rattle.pgm_plates.specs.declared.plate.PlateError.TheVariants.{Fault, ReadFault, OutOfMemory}
 use Rattle.pgm_plates.specs.Plates.{IsPlateFile}
 use Rattle.pgm_plates.specs.Reading.{AreFew, AtEnd}
 use Rattle.pgm_plates.specs.Readers.{Answers}
@@ -28,18 +28,18 @@ IsNear (SampleAboveMaxval at) = at < 2 ^ 42
 IsNear (Truncated at) = at < 2 ^ 42
 IsNear (TrailingBytes at) = ⊥
 
-abbrev pub IsNearRefusal : PlateRefusal → Type 0
-IsNearRefusal (Fault fault) = IsNear fault
-IsNearRefusal ReadFault = Unit {0}
-IsNearRefusal OutOfMemory = Unit {0}
+abbrev pub IsNearError : PlateError → Type 0
+IsNearError (Fault fault) = IsNear fault
+IsNearError ReadFault = Unit {0}
+IsNearError OutOfMemory = Unit {0}
 
 -- One image is taken, and its length is answered, or there is none.
-abbrev pub ReadsImage : TrayState → TrayState → Result (Option (Plate × ℕ)) PlateRefusal → Type 0
+abbrev pub ReadsImage : TrayState → TrayState → Result (Option (Plate × ℕ)) PlateError → Type 0
 ReadsImage before after (Ok (Some read)) = (image : List ℕ) × Takes image before after
     × IsPlateFile image read.0 × (length image ≡ read.1) × AreFew image
 ReadsImage before after (Ok None) =
     (nothing : List ℕ) × Takes nothing before after × (length nothing ≡ 0) × AtEnd before after
-ReadsImage before after (Err refusal) = Answers Page before after (Err refusal)
+ReadsImage before after (Err error) = Answers Page before after (Err error)
 
 -- `count` images were taken, of `size` bytes together.
 pub record Passed (before now : TrayState) (count size : ℕ) : Type 0 where
@@ -54,13 +54,13 @@ pub record Passed (before now : TrayState) (count size : ℕ) : Type 0 where
 
 -- Some bytes are taken, which the answer fits.
 pub record PageAnswers (page : ℕ) (before after : TrayState)
-    (result : Result (Option Plate) PlateRefusal) : Type 0 where
+    (result : Result (Option Plate) PlateError) : Type 0 where
   pub bytes : List ℕ
   pub takes : Takes bytes before after
   pub few : AreFewOfPage page bytes
   pub answer : AnswersPage page bytes before after result
 
-abbrev pub further_refusal : ℕ → PlateRefusal → PlateRefusal
-further_refusal n (Fault fault) = Fault (further n fault)
-further_refusal n ReadFault = ReadFault
-further_refusal n OutOfMemory = OutOfMemory
+abbrev pub further_error : ℕ → PlateError → PlateError
+further_error n (Fault fault) = Fault (further n fault)
+further_error n ReadFault = ReadFault
+further_error n OutOfMemory = OutOfMemory

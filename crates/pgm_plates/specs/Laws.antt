@@ -9,7 +9,7 @@ use Rattle.pgm_plates.specs.declared.bounds.Bounds.TheVariants.{Page, Sheet}
 use Rattle.pgm_plates.specs.declared.header.Header.{Header}
 use Rattle.pgm_plates.specs.declared.plate.Plate.{Plate}
 use Rattle.pgm_plates.specs.declared.plate.PlateFault.{PlateFault}
-use Rattle.pgm_plates.specs.declared.plate.PlateRefusal.TheVariants.{Fault}
+use Rattle.pgm_plates.specs.declared.plate.PlateError.TheVariants.{Fault}
 use Rattle.pgm_plates.specs.declared.rows.OpenPlate.{OpenPlate}
 use Rattle.pgm_plates.specs.Plates.{IsPlateWithin, IsPlateFileWithin, spelled}
 use Rattle.pgm_plates.specs.Planes.{plane_of, plate_of}

@@ -45,7 +45,7 @@ plate_of plane =
 -- what a call gives, with this made of its value
 abbrev pub map_ok : {A B E : Type 0} → (A → B) → Result A E → Result B E
 map_ok f (Ok x) = Ok (f x)
-map_ok f (Err refusal) = Err refusal
+map_ok f (Err error) = Err error
 
 -- the same of a value, where there is one
 abbrev pub map_some : {A B : Type 0} → (A → B) → Option A → Option B

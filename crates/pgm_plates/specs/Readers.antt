@@ -2,7 +2,7 @@
 use Rattle.std.specs.Prelude.{◌≡◌, ℕ, ◌+◌, ◌*◌, ◌<◌, ◌≤◌, List, [], ◌∷◌, ◌++◌, length, take}
 use Rattle.std.specs.Prelude.{◌-◌, nat_lt, if◌then◌else◌, map, slice_index, Result, Ok, Err}
 use Rattle.std.specs.List.{All}
-use Rattle.outside.specs.Causes.{Rose}
+use Rattle.outside.specs.ErrorCases.{Rose}
 use Rattle.outside.specs.Tray.{TrayState}
 use Rattle.outside.specs.Reading.{Takes}
 use Rattle.pgm_plates.specs.declared.bounds.Bounds.{Bounds}
@@ -10,8 +10,8 @@ use Rattle.pgm_plates.specs.declared.header.Header.{Header}
 use Rattle.pgm_plates.specs.declared.plate.Plate.{Plate}
 use Rattle.pgm_plates.specs.declared.plate.PlateFault.TheVariants.{SampleAboveMaxval, Truncated}
 use Rattle.pgm_plates.specs.declared.plate.PlateFault.TheVariants.{TrailingBytes}
-use Rattle.pgm_plates.specs.declared.plate.PlateRefusal.{PlateRefusal}
-use Rattle.pgm_plates.specs.declared.plate.PlateRefusal.TheVariants.{Fault, ReadFault, OutOfMemory}
+use Rattle.pgm_plates.specs.declared.plate.PlateError.{PlateError}
+use Rattle.pgm_plates.specs.declared.plate.PlateError.TheVariants.{Fault, ReadFault, OutOfMemory}
 use Rattle.pgm_plates.specs.declared.rows.OpenPlate.{OpenPlate}
 use Rattle.pgm_plates.specs.declared.values.Form.{Form}
 use Rattle.pgm_plates.specs.declared.values.Form.TheVariants.{Samples, Tints}
@@ -26,7 +26,7 @@ use Rattle.pgm_plates.specs.Scanning.{IsClean}
 
 -- Some bytes are taken, which the answer fits.
 pub record Answers (bounds : Bounds) (before after : TrayState)
-    (result : Result Plate PlateRefusal) : Type 0 where
+    (result : Result Plate PlateError) : Type 0 where
   pub bytes : List ℕ
   pub takes : Takes bytes before after
   pub few : AreFew bytes
@@ -47,13 +47,13 @@ pub record HeaderRead (bounds : Bounds) (before after : TrayState) (header : Hea
   pub positive : 0 < header.maxval
   pub maxval : header.maxval ≤ most_maxval
 
-abbrev pub ReadsHeader : Bounds → TrayState → TrayState → Result (Header × ℕ) PlateRefusal → Type 0
+abbrev pub ReadsHeader : Bounds → TrayState → TrayState → Result (Header × ℕ) PlateError → Type 0
 ReadsHeader bounds before after (Ok r) = HeaderRead bounds before after r.0 r.1
-ReadsHeader bounds before after (Err refusal) = Answers bounds before after (Err refusal)
+ReadsHeader bounds before after (Err error) = Answers bounds before after (Err error)
 
-abbrev pub OpensPlate : Bounds → TrayState → TrayState → Result OpenPlate PlateRefusal → Type 0
+abbrev pub OpensPlate : Bounds → TrayState → TrayState → Result OpenPlate PlateError → Type 0
 OpensPlate bounds before after (Ok plate) = HeaderRead bounds before after plate.header plate.size
-OpensPlate bounds before after (Err refusal) = Answers bounds before after (Err refusal)
+OpensPlate bounds before after (Err error) = Answers bounds before after (Err error)
 
 abbrev pub Fit : ℕ → List ℕ → Type 0
 Fit maxval samples = All (λ (s : ℕ). s ≤ maxval) samples
@@ -88,8 +88,8 @@ pub record IsAbove (maxval count : ℕ) (bytes : List ℕ) (place : ℕ) : Type 
   pub few : length samples < count
   pub within : length bytes ≤ count * sample_size maxval
 
--- What a refusal in a raster of `count` samples says, which begins at `start` in the file.
-abbrev pub RasterRefused : ℕ → ℕ → ℕ → TrayState → TrayState → PlateRefusal → Type 0
+-- What a error in a raster of `count` samples says, which begins at `start` in the file.
+abbrev pub RasterRefused : ℕ → ℕ → ℕ → TrayState → TrayState → PlateError → Type 0
 RasterRefused maxval count start before after (Fault (SampleAboveMaxval at)) = (bytes : List ℕ)
     × (place : ℕ) × Takes bytes before after × IsAbove maxval count bytes place
     × (at ≡ start + place)
@@ -109,12 +109,12 @@ pub record RasterTaken (maxval count : ℕ) (before after : TrayState)
   pub fit : Fit maxval samples
   pub all : length samples ≡ count
 
-abbrev pub ReadsPiece : ℕ → ℕ → ℕ → TrayState → TrayState → Result (Unit {0}) PlateRefusal → List ℕ
+abbrev pub ReadsPiece : ℕ → ℕ → ℕ → TrayState → TrayState → Result (Unit {0}) PlateError → List ℕ
     → Type 0
 ReadsPiece maxval count start before after (Ok done) samples =
     RasterTaken maxval count before after samples
-ReadsPiece maxval count start before after (Err refusal) samples =
-    RasterRefused maxval count start before after refusal
+ReadsPiece maxval count start before after (Err error) samples =
+    RasterRefused maxval count start before after error
 
 -- the samples that some values are, by their form
 abbrev pub samples_from : Form → ℕ → List ℕ → List ℕ
@@ -130,18 +130,18 @@ abbrev pub image_from : Form → (Values × ℕ) → (Plate × ℕ)
 image_from form read = (plate_from form read.0, read.1)
 
 -- what is found after the raster
-abbrev pub EndsFile : ℕ → TrayState → TrayState → Result (Unit {0}) PlateRefusal → Type 0
+abbrev pub EndsFile : ℕ → TrayState → TrayState → Result (Unit {0}) PlateError → Type 0
 EndsFile at before after (Ok done) = Takes [] before after × AtEnd before after
 EndsFile at before after (Err (Fault (TrailingBytes place))) =
     (last : ℕ) × Takes (last ∷ []) before after × (place ≡ at)
 EndsFile at before after (Err ReadFault) = Takes [] before after × Rose before.faults after.faults
 EndsFile at before after (Err other) = ⊥
 
-abbrev pub ReadsRaster : ℕ → ℕ → ℕ → TrayState → TrayState → Result (List ℕ) PlateRefusal → Type 0
+abbrev pub ReadsRaster : ℕ → ℕ → ℕ → TrayState → TrayState → Result (List ℕ) PlateError → Type 0
 ReadsRaster maxval count start before after (Ok samples) =
     RasterTaken maxval count before after samples
-ReadsRaster maxval count start before after (Err refusal) =
-    RasterRefused maxval count start before after refusal
+ReadsRaster maxval count start before after (Err error) =
+    RasterRefused maxval count start before after error
 
 -- the bytes of samples, and a byte of one more or none
 pub record IsDecoded (maxval : ℕ) (bytes samples : List ℕ) : Type 0 where
@@ -150,14 +150,14 @@ pub record IsDecoded (maxval : ℕ) (bytes samples : List ℕ) : Type 0 where
   pub short : length half < sample_size maxval
 
 -- What is read of a piece whose bytes are these, however many samples it has room for.
-abbrev pub JudgesPiece : ℕ → List ℕ → ℕ → TrayState → TrayState → Result (Unit {0}) PlateRefusal
+abbrev pub JudgesPiece : ℕ → List ℕ → ℕ → TrayState → TrayState → Result (Unit {0}) PlateError
     → Type 0
 JudgesPiece maxval bytes start before after result =
     (count : ℕ) → length bytes ≡ count * sample_size maxval
     → ReadsPiece maxval count start before after result (samples_spelled maxval bytes)
 
 -- A number of samples is read, whatever they are, or they are refused.
-abbrev pub ReadsUnkept : ℕ → ℕ → ℕ → TrayState → TrayState → Result (Unit {0}) PlateRefusal
+abbrev pub ReadsUnkept : ℕ → ℕ → ℕ → TrayState → TrayState → Result (Unit {0}) PlateError
     → Type 0
 ReadsUnkept maxval count start before after result =
     (samples : List ℕ) × ReadsPiece maxval count start before after result samples

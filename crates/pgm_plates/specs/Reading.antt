@@ -1,15 +1,15 @@
 -- What it means to read a plate from the file of a name.
 use Rattle.std.specs.Prelude.{◌≡◌, ◌⊎◌, ℕ, ◌+◌, ◌*◌, ◌≤◌, IsTrue, List, [], ◌∷◌, ◌++◌, length, take}
 use Rattle.std.specs.Prelude.{Some, Result, Ok, Err}
-use Rattle.outside.specs.Causes.{Rose, Asks}
+use Rattle.outside.specs.ErrorCases.{Rose, Asks}
 use Rattle.outside.specs.Tray.{TrayState, KeepsTray}
 use Rattle.pgm_plates.specs.declared.bounds.Bounds.{Bounds}
 use Rattle.pgm_plates.specs.declared.bounds.Bounds.TheVariants.{Page}
 use Rattle.pgm_plates.specs.declared.plate.Plate.{Plate}
 use Rattle.pgm_plates.specs.declared.plate.PlateFault.{PlateFault}
 use Rattle.pgm_plates.specs.declared.plate.PlateFault.TheVariants.{SampleAboveMaxval, Truncated}
-use Rattle.pgm_plates.specs.declared.plate.PlateRefusal.{PlateRefusal}
-use Rattle.pgm_plates.specs.declared.plate.PlateRefusal.TheVariants.{Fault, ReadFault, OutOfMemory}
+use Rattle.pgm_plates.specs.declared.plate.PlateError.{PlateError}
+use Rattle.pgm_plates.specs.declared.plate.PlateError.TheVariants.{Fault, ReadFault, OutOfMemory}
 use Rattle.pgm_plates.specs.Header.{IsHeader}
 use Rattle.pgm_plates.specs.Limits.{most_header}
 use Rattle.pgm_plates.specs.Plates.{IsPlateFileWithin, sample_size}
@@ -40,7 +40,7 @@ abbrev pub AtEnd : TrayState → TrayState → Type 0
 AtEnd before after = IsTrue before.tells → after.left ≡ []
 
 -- What the answer says of the bytes that were taken.
-abbrev pub AnswersPlate : Bounds → List ℕ → TrayState → TrayState → Result Plate PlateRefusal
+abbrev pub AnswersPlate : Bounds → List ℕ → TrayState → TrayState → Result Plate PlateError
     → Type 0
 AnswersPlate bounds bytes before after (Ok plate) =
     IsTrue after.begun × IsPlateFileWithin bounds bytes plate × AtEnd before after
@@ -53,7 +53,7 @@ AnswersPlate bounds bytes before after (Err OutOfMemory) = IsTrue after.begun
 -- No fault of the tray is passed over: the count stays at each answer but a read fault, and but
 -- a sample above the maxval,
 -- which may be among the bytes that came before a failed read.
-abbrev pub KeepsCount : {T : Type 0} → TrayState → TrayState → Result T PlateRefusal → Type 0
+abbrev pub KeepsCount : {T : Type 0} → TrayState → TrayState → Result T PlateError → Type 0
 KeepsCount before after (Err ReadFault) = Unit {0}
 KeepsCount before after (Err (Fault (SampleAboveMaxval at))) = Unit {0}
 KeepsCount before after other = after.faults ≡ before.faults
@@ -61,7 +61,7 @@ KeepsCount before after other = after.faults ≡ before.faults
 -- The file of that name is begun, and some bytes are taken off its beginning, which the answer
 -- fits.
 pub record ReadsPlateWithin (bounds : Bounds) (name : List ℕ) (before after : TrayState)
-    (result : Result Plate PlateRefusal) : Type 0 where
+    (result : Result Plate PlateError) : Type 0 where
   pub keeps : KeepsTray before after
   pub asked : Asks before.asked after.asked (name ∷ [])
   pub bytes : List ℕ
@@ -71,5 +71,5 @@ pub record ReadsPlateWithin (bounds : Bounds) (name : List ℕ) (before after : 
   pub answer : AnswersPlate bounds bytes before after result
   pub count : KeepsCount before after result
 
-abbrev pub ReadsPlate : List ℕ → TrayState → TrayState → Result Plate PlateRefusal → Type 0
+abbrev pub ReadsPlate : List ℕ → TrayState → TrayState → Result Plate PlateError → Type 0
 ReadsPlate = ReadsPlateWithin Page

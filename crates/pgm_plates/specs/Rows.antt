@@ -3,7 +3,7 @@
 use Rattle.std.specs.Prelude.{◌≡◌, ℕ, ◌+◌, ◌*◌, ◌<◌, ◌≤◌, IsTrue, List, [], ◌++◌, length, Result}
 use Rattle.std.specs.Prelude.{Ok, Err}
 use Rattle.std.specs.List.{All}
-use Rattle.outside.specs.declared.tray.Failed.{Failed}
+use Rattle.outside.specs.declared.tray.DeviceError.{DeviceError}
 use Rattle.outside.specs.Rack.{RackState, Creates}
 use Rattle.outside.specs.Reading.{Takes}
 use Rattle.outside.specs.Tray.{TrayState, Begins}
@@ -13,7 +13,7 @@ use Rattle.page_model.specs.declared.parts.Plane.{Plane}
 use Rattle.pgm_plates.specs.declared.bounds.Bounds.{Bounds}
 use Rattle.pgm_plates.specs.declared.header.Header.{Header}
 use Rattle.pgm_plates.specs.declared.plate.Plate.{Plate}
-use Rattle.pgm_plates.specs.declared.plate.PlateRefusal.{PlateRefusal}
+use Rattle.pgm_plates.specs.declared.plate.PlateError.{PlateError}
 use Rattle.pgm_plates.specs.declared.rows.OpenPlate.{OpenPlate}
 use Rattle.pgm_plates.specs.Header.{IsHeader}
 use Rattle.pgm_plates.specs.Limits.{most_header, samples_within}
@@ -48,7 +48,7 @@ pub record IsWithin (bounds : Bounds) (header : Header) : Type 0 where
 pub record HasRead (bounds : Bounds) (name : List ℕ) (before now : TrayState) (plate : OpenPlate)
     (samples : List ℕ) : Type 0 where
   pub begun : TrayState
-  pub begins : Begins {T = Unit {0}} {E = Failed} name before begun (Ok tt)
+  pub begins : Begins {T = Unit {0}} {E = DeviceError} name before begun (Ok tt)
   pub spelling : List ℕ
   pub is_header :
       IsHeader spelling plate.header.width plate.header.height plate.header.maxval
@@ -62,24 +62,24 @@ pub record HasRead (bounds : Bounds) (name : List ℕ) (before now : TrayState) 
   pub few : length samples ≤ samples_of plate.header
   pub count : now.faults ≡ before.faults
 
--- Where a header is read, no sample is read yet; a refusal is that of the whole plate.
-abbrev pub BeginsPlate : Bounds → List ℕ → TrayState → TrayState → Result OpenPlate PlateRefusal
+-- Where a header is read, no sample is read yet; a error is that of the whole plate.
+abbrev pub BeginsPlate : Bounds → List ℕ → TrayState → TrayState → Result OpenPlate PlateError
     → Type 0
 BeginsPlate bounds name before after (Ok plate) = HasRead bounds name before after plate []
-BeginsPlate bounds name before after (Err refusal) =
-    ReadsPlateWithin bounds name before after (Err refusal)
+BeginsPlate bounds name before after (Err error) =
+    ReadsPlateWithin bounds name before after (Err error)
 
 -- These samples are read by now, or the plate is refused.
 abbrev pub HasReadOr : Bounds → List ℕ → TrayState → TrayState → OpenPlate → List ℕ
-    → Result (Unit {0}) PlateRefusal → Type 0
+    → Result (Unit {0}) PlateError → Type 0
 HasReadOr bounds name before now plate samples (Ok done) =
     HasRead bounds name before now plate samples
-HasReadOr bounds name before now plate samples (Err refusal) =
-    ReadsPlateWithin bounds name before now (Err refusal)
+HasReadOr bounds name before now plate samples (Err error) =
+    ReadsPlateWithin bounds name before now (Err error)
 
 -- After `done` samples that were read, these rows are read, wherever the reading began.
 abbrev pub ReadsRows : OpenPlate → ℕ → List ℕ → TrayState → TrayState
-    → Result (Unit {0}) PlateRefusal → Type 0
+    → Result (Unit {0}) PlateError → Type 0
 ReadsRows plate done rows before after result =
     (bounds : Bounds) (name : List ℕ) (start : TrayState) (samples : List ℕ)
     → HasRead bounds name start before plate samples → length samples ≡ done
@@ -87,18 +87,18 @@ ReadsRows plate done rows before after result =
     → HasReadOr bounds name start after plate (samples ++ rows) result
 
 -- After `done` samples that were read, `count` more are read, whatever they are.
-abbrev pub ReadsSome : OpenPlate → ℕ → ℕ → TrayState → TrayState → Result (Unit {0}) PlateRefusal
+abbrev pub ReadsSome : OpenPlate → ℕ → ℕ → TrayState → TrayState → Result (Unit {0}) PlateError
     → Type 0
 ReadsSome plate done count before after result =
     (rows : List ℕ) × (length rows ≡ count) × ReadsRows plate done rows before after result
 
 -- what the plate's reading comes to, by what stands after its raster
-abbrev pub ended : Plate → Result (Unit {0}) PlateRefusal → Result Plate PlateRefusal
+abbrev pub ended : Plate → Result (Unit {0}) PlateError → Result Plate PlateError
 ended plate (Ok done) = Ok plate
-ended plate (Err refusal) = Err refusal
+ended plate (Err error) = Err error
 
 -- After all its samples, wherever the reading began, the whole plate is read, or it is refused.
-abbrev pub EndsPlate : OpenPlate → TrayState → TrayState → Result (Unit {0}) PlateRefusal → Type 0
+abbrev pub EndsPlate : OpenPlate → TrayState → TrayState → Result (Unit {0}) PlateError → Type 0
 EndsPlate plate before after result =
     (bounds : Bounds) (name : List ℕ) (start : TrayState) (samples : List ℕ)
     → HasRead bounds name start before plate samples
@@ -119,33 +119,33 @@ spelled_so_far header tints = spelled (plate_of (plane_with header tints))
 pub record HasWritten (name : List ℕ) (header : Header) (tints : List ℕ)
     (before now : RackState) : Type 0 where
   pub created : RackState
-  pub creates : Creates {T = Unit {0}} {E = Failed} name before created (Ok tt)
+  pub creates : Creates {T = Unit {0}} {E = DeviceError} name before created (Ok tt)
   pub writes :
-      WritesOn {T = Unit {0}} {E = Failed} (spelled_so_far header tints) created now (Ok tt)
+      WritesOn {T = Unit {0}} {E = DeviceError} (spelled_so_far header tints) created now (Ok tt)
   pub is_open : IsTrue now.is_open
 
 -- Where the header is written, no tint is yet; where that fails, no plane of that header is
 -- written whole.
-abbrev pub BeginsImage : List ℕ → Header → RackState → RackState → Result (Unit {0}) Failed → Type 0
+abbrev pub BeginsImage : List ℕ → Header → RackState → RackState → Result (Unit {0}) DeviceError → Type 0
 BeginsImage name header before after (Ok done) = HasWritten name header [] before after
 BeginsImage name header before after (Err failed) = (tints : List ℕ)
-    → WritesFile {T = Unit {0}} {E = Failed} name (spelled_so_far header tints) before after
+    → WritesFile {T = Unit {0}} {E = DeviceError} name (spelled_so_far header tints) before after
     (Err failed)
 
 -- These rows are written after the tints so far; where that fails, no plane that begins with
 -- them is written whole.
-abbrev pub WritesRows : Header → List ℕ → RackState → RackState → Result (Unit {0}) Failed → Type 0
+abbrev pub WritesRows : Header → List ℕ → RackState → RackState → Result (Unit {0}) DeviceError → Type 0
 WritesRows header rows before after (Ok done) =
     (name : List ℕ) (tints : List ℕ) (start : RackState) → HasWritten name header tints start before
     → HasWritten name header (tints ++ rows) start after
 WritesRows header rows before after (Err failed) =
     (name : List ℕ) (tints more : List ℕ) (start : RackState)
     → HasWritten name header tints start before
-    → WritesFile {T = Unit {0}} {E = Failed} name (spelled_so_far header (tints ++ (rows ++ more)))
+    → WritesFile {T = Unit {0}} {E = DeviceError} name (spelled_so_far header (tints ++ (rows ++ more)))
     start after (Err failed)
 
 -- The file is finished: what was written of it is the whole.
-abbrev pub EndsImage : RackState → RackState → Result (Unit {0}) Failed → Type 0
+abbrev pub EndsImage : RackState → RackState → Result (Unit {0}) DeviceError → Type 0
 EndsImage before after result =
     (name : List ℕ) (header : Header) (tints : List ℕ) (start : RackState)
     → HasWritten name header tints start before

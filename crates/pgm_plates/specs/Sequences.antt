@@ -1,7 +1,7 @@
 -- Plate files that stand one directly after the other, and what it means to read one of them.
 use Rattle.std.specs.Prelude.{◌≡◌, ℕ, ◌+◌, ◌<◌, ◌≤◌, IsTrue, List, [], ◌∷◌, ◌++◌, length, Option}
 use Rattle.std.specs.Prelude.{Some, None, Result, Ok, Err}
-use Rattle.outside.specs.Causes.{Rose, Asks}
+use Rattle.outside.specs.ErrorCases.{Rose, Asks}
 use Rattle.outside.specs.Tray.{TrayState, KeepsTray}
 use Rattle.pgm_plates.specs.declared.plate.Plate.{Plate}
 use Rattle.pgm_plates.specs.declared.plate.PlateFault.{PlateFault}
@@ -9,8 +9,8 @@ use Rattle.pgm_plates.specs.declared.plate.PlateFault.TheVariants.{BadMagic, Bad
 use Rattle.pgm_plates.specs.declared.plate.PlateFault.TheVariants.{TooManySamples, MaxvalRange}
 use Rattle.pgm_plates.specs.declared.plate.PlateFault.TheVariants.{SampleAboveMaxval, Truncated}
 use Rattle.pgm_plates.specs.declared.plate.PlateFault.TheVariants.{TrailingBytes}
-use Rattle.pgm_plates.specs.declared.plate.PlateRefusal.{PlateRefusal}
-use Rattle.pgm_plates.specs.declared.plate.PlateRefusal.TheVariants.{Fault, ReadFault, OutOfMemory}
+use Rattle.pgm_plates.specs.declared.plate.PlateError.{PlateError}
+use Rattle.pgm_plates.specs.declared.plate.PlateError.TheVariants.{Fault, ReadFault, OutOfMemory}
 use Rattle.pgm_plates.specs.Faults.{IsFault}
 use Rattle.pgm_plates.specs.Plates.{IsPlateFile}
 use Rattle.pgm_plates.specs.Reading.{AreFew, AtEnd, IsTruncated, KeepsCount}
@@ -52,7 +52,7 @@ IsOfImage (Truncated at) = 0 < at
 IsOfImage other = Unit {0}
 
 -- What the answer says of the bytes that were taken, where the plate of that number is asked for.
-abbrev pub AnswersPage : ℕ → List ℕ → TrayState → TrayState → Result (Option Plate) PlateRefusal
+abbrev pub AnswersPage : ℕ → List ℕ → TrayState → TrayState → Result (Option Plate) PlateError
     → Type 0
 AnswersPage page bytes before after (Ok (Some plate)) = IsTrue after.begun × (image : List ℕ)
     × (s : StandsAfter bytes page image) × (length s.plates ≡ page) × IsPlateFile image plate
@@ -70,7 +70,7 @@ AnswersPage page bytes before after (Err OutOfMemory) = IsTrue after.begun
 -- The file of that name is begun, and some bytes are taken off its beginning, which the answer
 -- fits.
 pub record ReadsPage (name : List ℕ) (page : ℕ) (before after : TrayState)
-    (result : Result (Option Plate) PlateRefusal) : Type 0 where
+    (result : Result (Option Plate) PlateError) : Type 0 where
   pub keeps : KeepsTray before after
   pub asked : Asks before.asked after.asked (name ∷ [])
   pub bytes : List ℕ

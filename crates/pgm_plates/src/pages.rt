@@ -1,39 +1,39 @@
 ghost use Rattle.std.specs.Prelude.{IsTrue, ◌≡◌, ◌≢◌, ◌+◌, ◌*◌, ◌<◌, ◌≤◌, ◌^◌, Ok, Err, Some, None, IfOk, IfSome, IfErr};
 ghost use Rattle.page_model.specs.Conditions.{IsPlane};
 ghost use Rattle.page_model.specs.Limits.{most_samples};
-ghost use Rattle.pgm_plates.specs.Images.{IsNear, IsNearRefusal, ReadsImage, PageAnswers, further_refusal};
+ghost use Rattle.pgm_plates.specs.Images.{IsNear, IsNearError, ReadsImage, PageAnswers, further_error};
 ghost use Rattle.pgm_plates.specs.Planes.{map_ok, map_some, plate_of};
 ghost use Rattle.pgm_plates.specs.Readers.{Fit, image_from, plate_from};
 ghost use Rattle.pgm_plates.specs.Reading.{KeepsCount};
 ghost use Rattle.pgm_plates.specs.Sequences.{ReadsPage, further as further_on};
 
 use crate::bounds::Bounds;
-use crate::plate::{Plate, PlateFault, PlateRefusal};
+use crate::plate::{Plate, PlateError, PlateFault};
 use crate::raster::read_raster;
 use crate::reading::read_header;
 use crate::samples::sample_size;
 use crate::values::{Form, Values};
-use outside::tray::{Failed, Tray};
+use outside::tray::{DeviceError, Tray};
 use page_model::parts::Plane;
 use std::alloc::Global;
 
 /// Reads plate number `page`, counted from 0, of the file `name`, in which plate files stand one directly after the
 /// other (pgm(5), section THE FORMAT). `None` where the file ends before it.
 ///
-/// The refusal is the first fault of an image that is no plate file, at its place in the file, a read that failed
+/// The error is the first fault of an image that is no plate file, at its place in the file, a read that failed
 /// before there was one, or out of memory.
 pub fn read_page<T: Tray>(
     alloc: Global,
     tray: &mut T,
     name: &str,
     page: u32,
-) -> Result<Option<Plate>, PlateRefusal>
+) -> Result<Option<Plate>, PlateError>
     ensures { ReadsPage name.now page (T.state tray.old) (T.state tray.new) result }
 {
     match read_named(alloc, tray, name, page, Form::Samples) {
         Ok(Some(read)) => Ok(Some(read.into_plate())),
         Ok(None) => Ok(None),
-        Err(refusal) => Err(refusal),
+        Err(error) => Err(error),
     }
 }
 
@@ -46,7 +46,7 @@ pub fn read_page_plane<T: Tray>(
     tray: &mut T,
     name: &str,
     page: u32,
-) -> Result<Option<Plane>, PlateRefusal>
+) -> Result<Option<Plane>, PlateError>
     ensures plate { ReadsPage name.now page (T.state tray.old) (T.state tray.new)
         (map_ok (map_some plate_of) result) }
     ensures in_range { IfOk result (λ read. IfSome read IsPlane) }
@@ -56,7 +56,7 @@ pub fn read_page_plane<T: Tray>(
     match read_named(alloc, tray, name, page, Form::Tints) {
         Ok(Some(read)) => Ok(Some(read.into_plane())),
         Ok(None) => Ok(None),
-        Err(refusal) => Err(refusal),
+        Err(error) => Err(error),
     }
 }
 
@@ -67,14 +67,14 @@ fn read_named<T: Tray>(
     name: &str,
     page: u32,
     form: Form,
-) -> Result<Option<Values>, PlateRefusal>
+) -> Result<Option<Values>, PlateError>
     ensures answer { ReadsPage name.now page (T.state tray.old) (T.state tray.new)
         (map_ok (map_some (plate_from form)) result) }
     ensures below { IfOk result (λ read. IfSome read (λ r. Fit r.header.maxval r.values)) }
 {
     match tray.begin(name) {
         Ok(()) => read_images(alloc, tray, page, form),
-        Err(Failed) => Err(PlateRefusal::ReadFault),
+        Err(DeviceError) => Err(PlateError::ReadFault),
     }
 }
 
@@ -84,7 +84,7 @@ fn read_images<T: Tray>(
     tray: &mut T,
     page: u32,
     form: Form,
-) -> Result<Option<Values>, PlateRefusal>
+) -> Result<Option<Values>, PlateError>
     requires { IsTrue (T.state tray.old).begun }
     ensures answer { PageAnswers page (T.state tray.old) (T.state tray.new)
         (map_ok (map_some (plate_from form)) result) }
@@ -97,13 +97,13 @@ fn read_images<T: Tray>(
         match read_image(alloc, tray, form) {
             Ok(Some((_, size))) => start += size,
             Ok(None) => return Ok(None),
-            Err(refusal) => return Err(further_refusal(refusal, start)),
+            Err(error) => return Err(further_error(error, start)),
         }
     }
     match read_image(alloc, tray, form) {
         Ok(Some((read, _))) => Ok(Some(read)),
         Ok(None) => Ok(None),
-        Err(refusal) => Err(further_refusal(refusal, start)),
+        Err(error) => Err(further_error(error, start)),
     }
 }
 
@@ -112,20 +112,20 @@ fn read_image<T: Tray>(
     alloc: Global,
     tray: &mut T,
     form: Form,
-) -> Result<Option<(Values, u64)>, PlateRefusal>
+) -> Result<Option<(Values, u64)>, PlateError>
     requires { IsTrue (T.state tray.old).begun }
     ensures answer { ReadsImage (T.state tray.old) (T.state tray.new)
         (map_ok (map_some (image_from form)) result) }
     ensures below { IfOk result (λ read. IfSome read (λ r. Fit r.0.header.maxval r.0.values)) }
     ensures count { KeepsCount (T.state tray.old) (T.state tray.new) result }
-    ensures near { IfErr result IsNearRefusal }
-    ensures some { result ≢ Err (PlateRefusal.Fault (PlateFault.Truncated 0)) }
+    ensures near { IfErr result IsNearError }
+    ensures some { result ≢ Err (PlateError.Fault (PlateFault.Truncated 0)) }
     ensures small { IfOk result (λ read. IfSome read (λ r. r.1 < 2 ^ 30)) }
 {
     let (header, start) = match read_header(tray, Bounds::Page) {
         Ok(read) => read,
-        Err(PlateRefusal::Fault(PlateFault::Truncated(0))) => return Ok(None),
-        Err(refusal) => return Err(refusal),
+        Err(PlateError::Fault(PlateFault::Truncated(0))) => return Ok(None),
+        Err(error) => return Err(error),
     };
     let count = header.width as usize * header.height as usize;
     match read_raster(alloc, tray, count, header.maxval, start, form) {
@@ -133,18 +133,18 @@ fn read_image<T: Tray>(
             let size = start + (count * sample_size(header.maxval)) as u64;
             Ok(Some((Values { header, values }, size)))
         }
-        Err(refusal) => Err(refusal),
+        Err(error) => Err(error),
     }
 }
 
-// The refusal of an image that begins at that place of the file.
-fn further_refusal(refusal: PlateRefusal, start: u64) -> PlateRefusal
-    requires near { IsNearRefusal refusal }
+// The error of an image that begins at that place of the file.
+fn further_error(error: PlateError, start: u64) -> PlateError
+    requires near { IsNearError error }
     requires start { start ≤ 2 ^ 62 }
-    ensures { result ≡ further_refusal start refusal }
+    ensures { result ≡ further_error start error }
 {
-    match refusal {
-        PlateRefusal::Fault(fault) => PlateRefusal::Fault(further(fault, start)),
+    match error {
+        PlateError::Fault(fault) => PlateError::Fault(further(fault, start)),
         other => other,
     }
 }

@@ -36,7 +36,7 @@ pub enum PlateFault {
 
 /// Why no plate was read.
 #[derive(Clone, Copy, Debug, Drop, PartialEq, Eq)]
-pub enum PlateRefusal {
+pub enum PlateError {
     /// The file is no plate file.
     Fault(PlateFault),
     /// The file could not be begun, or a read failed before there was a fault.

@@ -1,20 +1,20 @@
 ghost use Rattle.std.specs.Prelude.{IsTrue, ◌≡◌, ◌≢◌, ◌≤◌, ◌<◌, ◌*◌, ◌^◌, [], length, take, IfOk, IfErr, OnOk, Err};
-ghost use Rattle.outside.specs.Causes.{Rose};
+ghost use Rattle.outside.specs.ErrorCases.{Rose};
 ghost use Rattle.outside.specs.Reading.{Takes};
 ghost use Rattle.page_model.specs.Limits.{most_maxval};
 ghost use Rattle.pgm_plates.specs.Limits.{most_header};
 ghost use Rattle.pgm_plates.specs.Planes.{map_ok};
 ghost use Rattle.pgm_plates.specs.Plates.{sample_size as bytes_of_sample};
-ghost use Rattle.pgm_plates.specs.Images.{IsNearRefusal};
+ghost use Rattle.pgm_plates.specs.Images.{IsNearError};
 ghost use Rattle.pgm_plates.specs.Reading.{KeepsCount};
 ghost use Rattle.pgm_plates.specs.Readers.{Fit, JudgesPiece, ReadsPiece, ReadsRaster, samples_from};
 
-use crate::plate::{PlateFault, PlateRefusal};
+use crate::plate::{PlateError, PlateFault};
 use crate::samples::{decode, first_above, sample_size};
 use crate::turning::turn;
 use crate::values::Form;
 use lists::list::List;
-use outside::tray::{Failed, Tray};
+use outside::tray::{DeviceError, Tray};
 use page_model::parts::Tints;
 use std::alloc::{AllocError, Global};
 
@@ -30,7 +30,7 @@ pub fn read_raster<T: Tray>(
     maxval: u32,
     start: u64,
     form: Form,
-) -> Result<Tints, PlateRefusal>
+) -> Result<Tints, PlateError>
     requires begun { IsTrue (T.state tray.old).begun }
     requires start { start ≤ most_header }
     requires first { 0 < start }
@@ -41,18 +41,18 @@ pub fn read_raster<T: Tray>(
         ReadsRaster maxval count start (T.state tray.old) (T.state tray.new) samples }
     ensures below { IfOk result (Fit maxval) }
     ensures count { KeepsCount (T.state tray.old) (T.state tray.new) result }
-    ensures near { IfErr result IsNearRefusal }
-    ensures uncut { result ≢ Err (PlateRefusal.Fault (PlateFault.Truncated 0)) }
+    ensures near { IfErr result IsNearError }
+    ensures uncut { result ≢ Err (PlateError.Fault (PlateFault.Truncated 0)) }
 {
     let most = count.min(PIECE);
     let Ok(mut piece) = no_samples(alloc, most) else {
-        return Err(PlateRefusal::OutOfMemory);
+        return Err(PlateError::OutOfMemory);
     };
     let Ok(mut bytes) = no_bytes(alloc, 2 * most) else {
-        return Err(PlateRefusal::OutOfMemory);
+        return Err(PlateError::OutOfMemory);
     };
     let Ok(mut values) = Vec::with_capacity(alloc, count) else {
-        return Err(PlateRefusal::OutOfMemory);
+        return Err(PlateError::OutOfMemory);
     };
     match read_pieces(
         tray,
@@ -65,7 +65,7 @@ pub fn read_raster<T: Tray>(
         form,
     ) {
         Ok(()) => Ok(List::from_vec(values)),
-        Err(refusal) => Err(refusal),
+        Err(error) => Err(error),
     }
 }
 
@@ -92,21 +92,21 @@ fn read_pieces<T: Tray>(
     maxval: u32,
     start: u64,
     form: Form,
-) -> Result<(), PlateRefusal>
+) -> Result<(), PlateError>
     requires begun { IsTrue (T.state tray.old).begun }
     requires start { start ≤ most_header }
     requires first { 0 < start }
     requires count { count ≤ 2 ^ 36 }
     requires maxval { maxval ≤ most_maxval }
     requires some { 0 < length piece.old }
-    requires room { 2 * length piece.old ≤ length bytes.old }
+    requires workspace { 2 * length piece.old ≤ length bytes.old }
     requires empty { values.old.items ≡ [] }
     ensures answer { let samples = samples_from form maxval values.new.items in
         ReadsPiece maxval count start (T.state tray.old) (T.state tray.new) result samples }
     ensures below { OnOk result (Fit maxval values.new.items) }
     ensures count { KeepsCount (T.state tray.old) (T.state tray.new) result }
-    ensures near { IfErr result IsNearRefusal }
-    ensures uncut { result ≢ Err (PlateRefusal.Fault (PlateFault.Truncated 0)) }
+    ensures near { IfErr result IsNearError }
+    ensures uncut { result ≢ Err (PlateError.Fault (PlateFault.Truncated 0)) }
 {
     let size = sample_size(maxval);
     while values.len() < count {
@@ -122,9 +122,9 @@ fn read_pieces<T: Tray>(
         ) {
             Ok(()) => match values.extend_from_slice(&piece[..want]) {
                 Ok(()) => {}
-                Err(_) => return Err(PlateRefusal::OutOfMemory),
+                Err(_) => return Err(PlateError::OutOfMemory),
             },
-            Err(refusal) => return Err(refusal),
+            Err(error) => return Err(error),
         }
     }
     Ok(())
@@ -138,28 +138,28 @@ fn read_values<T: Tray>(
     maxval: u32,
     start: u64,
     form: Form,
-) -> Result<(), PlateRefusal>
+) -> Result<(), PlateError>
     requires begun { IsTrue (T.state tray.old).begun }
     requires start { start < 2 ^ 40 }
     requires count { length values.old ≤ 2 ^ 36 }
     requires maxval { maxval ≤ most_maxval }
-    requires room { length bytes.old ≡ length values.old * bytes_of_sample maxval }
+    requires workspace { length bytes.old ≡ length values.old * bytes_of_sample maxval }
     ensures answer { let count = length values.new in
         let samples = samples_from form maxval values.new in
         ReadsPiece maxval count start (T.state tray.old) (T.state tray.new) result samples }
     ensures below { OnOk result (Fit maxval values.new) }
     ensures begun { IsTrue (T.state tray.new).begun }
     ensures count { KeepsCount (T.state tray.old) (T.state tray.new) result }
-    ensures near { IfErr result IsNearRefusal }
-    ensures uncut { 0 < start → result ≢ Err (PlateRefusal.Fault (PlateFault.Truncated 0)) }
-    ensures memory { result ≢ Err PlateRefusal.OutOfMemory }
+    ensures near { IfErr result IsNearError }
+    ensures uncut { 0 < start → result ≢ Err (PlateError.Fault (PlateFault.Truncated 0)) }
+    ensures memory { result ≢ Err PlateError.OutOfMemory }
 {
     match read_piece(tray, values, bytes, maxval, start) {
         Ok(()) => {
             turn_to(form, values, maxval);
             Ok(())
         }
-        Err(refusal) => Err(refusal),
+        Err(error) => Err(error),
     }
 }
 
@@ -184,25 +184,25 @@ pub fn read_piece<T: Tray>(
     bytes: &mut [u8],
     maxval: u32,
     start: u64,
-) -> Result<(), PlateRefusal>
+) -> Result<(), PlateError>
     requires begun { IsTrue (T.state tray.old).begun }
     requires start { start < 2 ^ 40 }
     requires count { length samples.old ≤ 2 ^ 36 }
-    requires room { length bytes.old ≡ length samples.old * bytes_of_sample maxval }
+    requires workspace { length bytes.old ≡ length samples.old * bytes_of_sample maxval }
     ensures answer { let count = length samples.new in
         ReadsPiece maxval count start (T.state tray.old) (T.state tray.new) result samples.new }
     ensures begun { IsTrue (T.state tray.new).begun }
     ensures count { KeepsCount (T.state tray.old) (T.state tray.new) result }
-    ensures near { IfErr result IsNearRefusal }
-    ensures uncut { 0 < start → result ≢ Err (PlateRefusal.Fault (PlateFault.Truncated 0)) }
-    ensures memory { result ≢ Err PlateRefusal.OutOfMemory }
+    ensures near { IfErr result IsNearError }
+    ensures uncut { 0 < start → result ≢ Err (PlateError.Fault (PlateFault.Truncated 0)) }
+    ensures memory { result ≢ Err PlateError.OutOfMemory }
 {
     match judge_piece(tray, bytes, maxval, start) {
         Ok(()) => {
             decode(bytes, maxval, samples);
             Ok(())
         }
-        Err(refusal) => Err(refusal),
+        Err(error) => Err(error),
     }
 }
 
@@ -213,28 +213,28 @@ pub fn judge_piece<T: Tray>(
     bytes: &mut [u8],
     maxval: u32,
     start: u64,
-) -> Result<(), PlateRefusal>
+) -> Result<(), PlateError>
     requires begun { IsTrue (T.state tray.old).begun }
     requires start { start < 2 ^ 40 }
-    requires room { length bytes.old ≤ 2 ^ 37 }
+    requires workspace { length bytes.old ≤ 2 ^ 37 }
     ensures answer { let bytes = bytes.new in
         JudgesPiece maxval bytes start (T.state tray.old) (T.state tray.new) result }
     ensures begun { IsTrue (T.state tray.new).begun }
     ensures count { KeepsCount (T.state tray.old) (T.state tray.new) result }
-    ensures near { IfErr result IsNearRefusal }
-    ensures uncut { 0 < start → result ≢ Err (PlateRefusal.Fault (PlateFault.Truncated 0)) }
-    ensures memory { result ≢ Err PlateRefusal.OutOfMemory }
+    ensures near { IfErr result IsNearError }
+    ensures uncut { 0 < start → result ≢ Err (PlateError.Fault (PlateFault.Truncated 0)) }
+    ensures memory { result ≢ Err PlateError.OutOfMemory }
 {
     let (filled, end) = fill(tray, bytes);
     // What was filled before the file ended or a read failed is judged first.
     match first_above(&bytes[..filled], maxval) {
-        Some(place) => Err(PlateRefusal::Fault(PlateFault::SampleAboveMaxval(
+        Some(place) => Err(PlateError::Fault(PlateFault::SampleAboveMaxval(
             start + (place * sample_size(maxval)) as u64,
         ))),
         None => match end {
             Filled::Whole => Ok(()),
-            Filled::End => Err(PlateRefusal::Fault(PlateFault::Truncated(start + filled as u64))),
-            Filled::Broken => Err(PlateRefusal::ReadFault),
+            Filled::End => Err(PlateError::Fault(PlateFault::Truncated(start + filled as u64))),
+            Filled::Broken => Err(PlateError::ReadFault),
         },
     }
 }
@@ -265,7 +265,7 @@ fn fill<T: Tray>(tray: &mut T, buf: &mut [u8]) -> (usize, Filled)
         match tray.read(&mut buf[done..]) {
             Ok(0) => return (done, Filled::End),
             Ok(count) => done += count,
-            Err(Failed) => return (done, Filled::Broken),
+            Err(DeviceError) => return (done, Filled::Broken),
         }
     }
     (done, Filled::Whole)

@@ -6,11 +6,11 @@ ghost use Rattle.pgm_plates.specs.Rows.{BeginsPlate, EndsPlate, ReadsRows, Reads
 
 use crate::bounds::Bounds;
 pub use crate::header::Header;
-use crate::plate::PlateRefusal;
+use crate::plate::PlateError;
 use crate::raster::{judge_piece, read_piece};
 use crate::reading::{end_of_file, read_header};
 use crate::samples::sample_size;
-use outside::tray::{Failed, Tray};
+use outside::tray::{DeviceError, Tray};
 
 /// A plate file that is being read: its header, and the header's length in bytes.
 #[derive(Clone, Copy, Debug, Drop, PartialEq, Eq)]
@@ -21,39 +21,39 @@ pub struct OpenPlate {
 
 /// Begins the file `name` and reads its header, within these bounds.
 ///
-/// With `read_rows` and `end_plate` after it, it reads what `read_plate_within` reads, and takes no memory. A refusal
+/// With `read_rows` and `end_plate` after it, it reads what `read_plate_within` reads, and takes no memory. A error
 /// of any of them is the one of the whole plate.
 pub fn begin_plate<T: Tray>(
     tray: &mut T,
     name: &str,
     bounds: Bounds,
-) -> Result<OpenPlate, PlateRefusal>
+) -> Result<OpenPlate, PlateError>
     ensures begun { BeginsPlate bounds name.now (T.state tray.old) (T.state tray.new) result }
-    ensures memory { result ≢ Err PlateRefusal.OutOfMemory }
+    ensures memory { result ≢ Err PlateError.OutOfMemory }
 {
     match tray.begin(name) {
         Ok(()) => open_plate(tray, bounds),
-        Err(Failed) => Err(PlateRefusal::ReadFault),
+        Err(DeviceError) => Err(PlateError::ReadFault),
     }
 }
 
 // Reads the header of the file that is begun.
-fn open_plate<T: Tray>(tray: &mut T, bounds: Bounds) -> Result<OpenPlate, PlateRefusal>
+fn open_plate<T: Tray>(tray: &mut T, bounds: Bounds) -> Result<OpenPlate, PlateError>
     requires { IsTrue (T.state tray.old).begun }
     ensures answer { OpensPlate bounds (T.state tray.old) (T.state tray.new) result }
     ensures count { KeepsCount (T.state tray.old) (T.state tray.new) result }
-    ensures memory { result ≢ Err PlateRefusal.OutOfMemory }
+    ensures memory { result ≢ Err PlateError.OutOfMemory }
 {
     match read_header(tray, bounds) {
         Ok((header, size)) => Ok(OpenPlate { header, size }),
-        Err(refusal) => Err(refusal),
+        Err(error) => Err(error),
     }
 }
 
 /// Reads the next samples of a plate, row by row from the top, and fills `samples`; `done` samples were read before.
 /// `bytes` is the buffer that they are read through, piece by piece.
 ///
-/// The refusals are the fault `SampleAboveMaxval` at the first sample above the maxval, the fault `Truncated` where the
+/// The errors are the fault `SampleAboveMaxval` at the first sample above the maxval, the fault `Truncated` where the
 /// file ends before the last of them, and `ReadFault` where a read fails.
 pub fn read_rows<T: Tray>(
     tray: &mut T,
@@ -61,14 +61,14 @@ pub fn read_rows<T: Tray>(
     done: u64,
     samples: &mut [u16],
     bytes: &mut [u8],
-) -> Result<(), PlateRefusal>
+) -> Result<(), PlateError>
     requires begun { IsTrue (T.state tray.old).begun }
     requires header { plate.size ≤ most_header }
     requires count { done + length samples.old ≤ 2 ^ 36 }
-    requires room { 2 ≤ length bytes.old }
+    requires workspace { 2 ≤ length bytes.old }
     ensures rows { ReadsRows plate done samples.new (T.state tray.old) (T.state tray.new) result }
     ensures begun { IsTrue (T.state tray.new).begun }
-    ensures memory { result ≢ Err PlateRefusal.OutOfMemory }
+    ensures memory { result ≢ Err PlateError.OutOfMemory }
 {
     let maxval = plate.header.maxval;
     let start = plate.size + done * sample_size(maxval) as u64;
@@ -78,21 +78,21 @@ pub fn read_rows<T: Tray>(
 /// Reads the next `count` samples of a plate, of which `done` were read before, and keeps none of them: it only checks
 /// that none is above the maxval. `bytes` is the buffer that they are read through, piece by piece.
 ///
-/// The refusals are those of `read_rows`.
+/// The errors are those of `read_rows`.
 pub fn judge_rows<T: Tray>(
     tray: &mut T,
     plate: OpenPlate,
     done: u64,
     count: u64,
     bytes: &mut [u8],
-) -> Result<(), PlateRefusal>
+) -> Result<(), PlateError>
     requires begun { IsTrue (T.state tray.old).begun }
     requires header { plate.size ≤ most_header }
     requires count { done + count ≤ 2 ^ 36 }
-    requires room { 2 ≤ length bytes.old }
+    requires workspace { 2 ≤ length bytes.old }
     ensures rows { ReadsSome plate done count (T.state tray.old) (T.state tray.new) result }
     ensures begun { IsTrue (T.state tray.new).begun }
-    ensures memory { result ≢ Err PlateRefusal.OutOfMemory }
+    ensures memory { result ≢ Err PlateError.OutOfMemory }
 {
     let maxval = plate.header.maxval;
     let start = plate.size + done * sample_size(maxval) as u64;
@@ -100,12 +100,12 @@ pub fn judge_rows<T: Tray>(
 }
 
 /// Checks that nothing stands after the last sample of a plate.
-pub fn end_plate<T: Tray>(tray: &mut T, plate: OpenPlate) -> Result<(), PlateRefusal>
+pub fn end_plate<T: Tray>(tray: &mut T, plate: OpenPlate) -> Result<(), PlateError>
     requires begun { IsTrue (T.state tray.old).begun }
     requires header { plate.size ≤ most_header }
     requires count { samples_of plate.header ≤ 2 ^ 36 }
     ensures ended { EndsPlate plate (T.state tray.old) (T.state tray.new) result }
-    ensures memory { result ≢ Err PlateRefusal.OutOfMemory }
+    ensures memory { result ≢ Err PlateError.OutOfMemory }
 {
     let Header {
         width,
@@ -123,16 +123,16 @@ fn fill_samples<T: Tray>(
     bytes: &mut [u8],
     maxval: u32,
     start: u64,
-) -> Result<(), PlateRefusal>
+) -> Result<(), PlateError>
     requires begun { IsTrue (T.state tray.old).begun }
     requires start { start ≤ 2 ^ 38 }
     requires count { length samples.old ≤ 2 ^ 36 }
-    requires room { 2 ≤ length bytes.old }
+    requires workspace { 2 ≤ length bytes.old }
     ensures answer { let count = length samples.new in
         ReadsPiece maxval count start (T.state tray.old) (T.state tray.new) result samples.new }
     ensures begun { IsTrue (T.state tray.new).begun }
     ensures count { KeepsCount (T.state tray.old) (T.state tray.new) result }
-    ensures memory { result ≢ Err PlateRefusal.OutOfMemory }
+    ensures memory { result ≢ Err PlateError.OutOfMemory }
 {
     let size = sample_size(maxval);
     let most = bytes.len() / size;
@@ -147,7 +147,7 @@ fn fill_samples<T: Tray>(
             start + (done * size) as u64,
         ) {
             Ok(()) => done += want,
-            Err(refusal) => return Err(refusal),
+            Err(error) => return Err(error),
         }
     }
     Ok(())
@@ -160,15 +160,15 @@ fn judge_samples<T: Tray>(
     bytes: &mut [u8],
     maxval: u32,
     start: u64,
-) -> Result<(), PlateRefusal>
+) -> Result<(), PlateError>
     requires begun { IsTrue (T.state tray.old).begun }
     requires start { start ≤ 2 ^ 38 }
     requires count { count ≤ 2 ^ 36 }
-    requires room { 2 ≤ length bytes.old }
+    requires workspace { 2 ≤ length bytes.old }
     ensures answer { ReadsUnkept maxval count start (T.state tray.old) (T.state tray.new) result }
     ensures begun { IsTrue (T.state tray.new).begun }
     ensures count { KeepsCount (T.state tray.old) (T.state tray.new) result }
-    ensures memory { result ≢ Err PlateRefusal.OutOfMemory }
+    ensures memory { result ≢ Err PlateError.OutOfMemory }
 {
     let size = sample_size(maxval);
     let most = (bytes.len() / size) as u64;
@@ -182,7 +182,7 @@ fn judge_samples<T: Tray>(
             start + done * size as u64,
         ) {
             Ok(()) => done += want,
-            Err(refusal) => return Err(refusal),
+            Err(error) => return Err(error),
         }
     }
     Ok(())

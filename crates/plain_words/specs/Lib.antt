@@ -1,7 +1,7 @@
 pub mod Numbers
 pub mod Names
 pub mod Parts
-pub mod Held
+pub mod Stored
 pub mod Distinct
 pub mod Inputs
 pub mod Plates

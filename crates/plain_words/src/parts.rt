@@ -1,6 +1,6 @@
 ghost use Rattle.std.specs.Prelude.{◌≡◌};
 ghost use Rattle.std.specs.List.{list_any};
-ghost use Rattle.plain_words.specs.Held.{copy_in, input_in, names_in};
+ghost use Rattle.plain_words.specs.Stored.{copy_in, input_in, names_in};
 ghost use Rattle.plain_words.specs.Parts.{before_colon, after_colon, copy_of, input_of, is_colon, is_copy, is_input, is_last_part as last_part_spec, is_plate as plate_spec, parts_of as parts_spec};
 
 use crate::names::is_name;

@@ -34,11 +34,11 @@ module _ {Y : Type 0} (none : Y) (Does : ℕ → Y → Y → Type 0) where
       others = λ j more. (let other : j ≢ k = omega arith in others j other ∙ so_far.others j (omega arith));
     }
 
-    pub stops_here : (count : ℕ) (Stops : ℕ → Y → Y → Type 0) → k < count → Stops k (get_or b k none) (get_or c k none) → StopsAt none count k Does Stops a c
-    stops_here count Stops known here = record {
+    pub stops_here : (count : ℕ) (Errors : ℕ → Y → Y → Type 0) → k < count → Errors k (get_or b k none) (get_or c k none) → StopsAt none count k Does Errors a c
+    stops_here count Errors known here = record {
       known = known;
       each = earlier;
-      here = from (Stops k) here;
+      here = from (Errors k) here;
       others = λ j more. (let other : j ≢ k = omega arith in others j other ∙ so_far.others j (omega arith));
     }
 
@@ -61,18 +61,18 @@ module _ {X Y : Type 0} (f : X → Y) (none : Y) (xs : List X) (k : ℕ) (d x : 
   pub set_more : (Does : ℕ → Y → Y → Type 0) (a : List Y) → EachDoes none k Does a (map f xs) → Does k (f (get_or xs k d)) (f x) → EachDoes none (k + 1) Does a (map f (slice_set xs k x))
   set_more Does a so_far here = one_more none Does k a (map f xs) (map f (slice_set xs k x)) other_same so_far (at_place (Does k) here)
 
-  pub set_stops : (Does Stops : ℕ → Y → Y → Type 0) (a : List Y) (count : ℕ) → k < count → EachDoes none k Does a (map f xs) → Stops k (f (get_or xs k d)) (f x) → StopsAt none count k Does Stops a (map f (slice_set xs k x))
-  set_stops Does Stops a count known so_far here = stops_here none Does k a (map f xs) (map f (slice_set xs k x)) other_same so_far count Stops known (at_place (Stops k) here)
+  pub set_stops : (Does Errors : ℕ → Y → Y → Type 0) (a : List Y) (count : ℕ) → k < count → EachDoes none k Does a (map f xs) → Errors k (f (get_or xs k d)) (f x) → StopsAt none count k Does Errors a (map f (slice_set xs k x))
+  set_stops Does Errors a count known so_far here = stops_here none Does k a (map f xs) (map f (slice_set xs k x)) other_same so_far count Errors known (at_place (Errors k) here)
 
 -- as many as there are
 pub all_done : {Y : Type 0} (none : Y) (Does : ℕ → Y → Y → Type 0) (n m : ℕ) (a b : List Y) → n ≡ m → EachDoes none n Does a b → EachDoes none m Does a b
 all_done none Does n m a b same done = subst (λ (k : ℕ). EachDoes none k Does a b) same done
 
 -- where one stops can be said otherwise
-pub stops_as : {X : Type 0} (none : X) (count k : ℕ) (Does Stops OtherDoes OtherStops : ℕ → X → X → Type 0) (a b : List X) → ((j : ℕ) (x y : X) → j < k → Does j x y → OtherDoes j x y) → ((x y : X) → Stops k x y → OtherStops k x y) → StopsAt none count k Does Stops a b → StopsAt none count k OtherDoes OtherStops a b
-stops_as none count k Does Stops OtherDoes OtherStops a b so stop done = record {
+pub stops_as : {X : Type 0} (none : X) (count k : ℕ) (Does Errors OtherDoes OtherStops : ℕ → X → X → Type 0) (a b : List X) → ((j : ℕ) (x y : X) → j < k → Does j x y → OtherDoes j x y) → ((x y : X) → Errors k x y → OtherStops k x y) → StopsAt none count k Does Errors a b → StopsAt none count k OtherDoes OtherStops a b
+stops_as none count k Does Errors OtherDoes OtherStops a b so error done = record {
   known = done.known;
   each = λ j less. so j (get_or a j none) (get_or b j none) less (done.each j less);
-  here = stop (get_or a k none) (get_or b k none) done.here;
+  here = error (get_or a k none) (get_or b k none) done.here;
   others = done.others;
 }

@@ -1,7 +1,7 @@
 pub mod EachLemmas
 pub mod JudgeLemmas
 pub mod ReadLemmas
-pub mod StopLemmas
+pub mod ErrorLemmas
 pub mod WriteLemmas
 pub mod JudgedLemmas
 mod ShareLemmas

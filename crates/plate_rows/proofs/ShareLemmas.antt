@@ -5,17 +5,17 @@ use Rattle.std.proofs.lemmas.Bool.{cases_eq, cases_lt}
 use Rattle.std.proofs.lemmas.List.{get_or_append_left, length-append, length-map, map-append}
 use Rattle.outside.specs.Tray.{TrayState}
 use Rattle.pgm_plates.specs.declared.header.Header.{Header}
-use Rattle.plate_rows.specs.declared.judging.RefusedPlate.{RefusedPlate}
-use Rattle.plate_rows.specs.Judging.{Judges, JudgesPlate, JudgesShare, MayJudge, first_refusal}
+use Rattle.plate_rows.specs.declared.judging.PlateErrorAt.{PlateErrorAt}
+use Rattle.plate_rows.specs.Judging.{Judges, JudgesPlate, JudgesShare, MayJudge, first_error}
 use Rattle.plate_rows.specs.Trays.{header_at, name_at, no_header, no_tray, tray_at}
 
 -- each of some plates was judged, or may have been
-may_judge : (names : List (List ℕ)) (headers : List Header) (a b : List TrayState) (result : Result (Unit {0}) RefusedPlate) → JudgesShare names headers a b result → (j : ℕ) → j < length names → MayJudge (name_at names j) (tray_at a j) (tray_at b j)
+may_judge : (names : List (List ℕ)) (headers : List Header) (a b : List TrayState) (result : Result (Unit {0}) PlateErrorAt) → JudgesShare names headers a b result → (j : ℕ) → j < length names → MayJudge (name_at names j) (tray_at a j) (tray_at b j)
 may_judge names headers a b (Ok x) judges j less = inr (Ok (header_at headers j), judges.each j less)
-may_judge names headers a b (Err stop) judges j less = elim (cases_lt j stop.plate) [
+may_judge names headers a b (Err error) judges j less = elim (cases_lt j error.plate) [
   | inl before ↦ inr (Ok (header_at headers j), judges.0.each j before)
-  | inr from ↦ elim (cases_eq j stop.plate) [
-    | inl same ↦ subst (λ (n : ℕ). MayJudge (name_at names n) (tray_at a n) (tray_at b n)) (sym same) (inr (Err stop.refusal, judges.0.here))
+  | inr from ↦ elim (cases_eq j error.plate) [
+    | inl same ↦ subst (λ (n : ℕ). MayJudge (name_at names n) (tray_at a n) (tray_at b n)) (sym same) (inr (Err error.plate_error, judges.0.here))
     | inr other ↦ judges.0.later j (omega arith) less
   ]
 ]
@@ -64,7 +64,7 @@ module _ (names more : List (List ℕ)) (headers shown : List Header) (a b c d :
       subst (λ (k : ℕ). tray_at (b ++ d) k ≡ tray_at (a ++ c) k) back
       (in_second (λ name header old new. new ≡ old) (j - n) (others (j - n) (omega (arith, all))))
 
-  pub shares_joined : (first second : Result (Unit {0}) RefusedPlate) → JudgesShare names headers a b first → JudgesShare more shown c d second → JudgesShare (names ++ more) (headers ++ shown) (a ++ c) (b ++ d) (first_refusal n first second)
+  pub shares_joined : (first second : Result (Unit {0}) PlateErrorAt) → JudgesShare names headers a b first → JudgesShare more shown c d second → JudgesShare (names ++ more) (headers ++ shown) (a ++ c) (b ++ d) (first_error n first second)
   unfolding judged
   shares_joined (Ok x) (Ok y) one two = record {
     each = λ k less. by_place (λ j. Judges (names ++ more) (headers ++ shown) j (tray_at (a ++ c) j) (tray_at (b ++ d) j)) (length more)
@@ -72,13 +72,13 @@ module _ (names more : List (List ℕ)) (headers shown : List Header) (a b c d :
         (λ i low. in_second judged i (two.each i low)) k (omega (arith, all));
     others = none_beyond two.others;
   }
-  shares_joined (Ok x) (Err stop) one two = (
+  shares_joined (Ok x) (Err error) one two = (
     record {
       known = (let known = two.0.known in omega (arith, all));
-      each = by_place (λ j. Judges (names ++ more) (headers ++ shown) j (tray_at (a ++ c) j) (tray_at (b ++ d) j)) stop.plate
+      each = by_place (λ j. Judges (names ++ more) (headers ++ shown) j (tray_at (a ++ c) j) (tray_at (b ++ d) j)) error.plate
           (λ j low. in_first judged j low (one.each j (omega (arith, named))))
           (λ i low. in_second judged i (two.0.each i low));
-      here = in_second (λ name header old new. JudgesPlate name old new (Err stop.refusal)) stop.plate two.0.here;
+      here = in_second (λ name header old new. JudgesPlate name old new (Err error.plate_error)) error.plate two.0.here;
       later = λ j past less.
           (let back : n + (j - n) ≡ j = omega arith in
           subst (λ (k : ℕ). MayJudge (name_at (names ++ more) k) (tray_at (a ++ c) k) (tray_at (b ++ d) k)) back
@@ -87,40 +87,40 @@ module _ (names more : List (List ℕ)) (headers shown : List Header) (a b c d :
     },
     two.1,
   )
-  shares_joined (Err stop) second one two = (
+  shares_joined (Err error) second one two = (
     record {
       known = (let known = one.0.known in omega (arith, all, named));
       each = λ j less. (let known = one.0.known in in_first judged j (omega (arith, named)) (one.0.each j less));
-      here = (let known = one.0.known in in_first (λ name header old new. JudgesPlate name old new (Err stop.refusal)) stop.plate (omega (arith, named)) one.0.here);
-      later = λ j past less. by_place (λ k. stop.plate < k → MayJudge (name_at (names ++ more) k) (tray_at (a ++ c) k) (tray_at (b ++ d) k)) (length more)
+      here = (let known = one.0.known in in_first (λ name header old new. JudgesPlate name old new (Err error.plate_error)) error.plate (omega (arith, named)) one.0.here);
+      later = λ j past less. by_place (λ k. error.plate < k → MayJudge (name_at (names ++ more) k) (tray_at (a ++ c) k) (tray_at (b ++ d) k)) (length more)
           (λ k low after. in_first (λ name header old new. MayJudge name old new) k low (one.0.later k after (omega (arith, named))))
           (λ i low after. in_second (λ name header old new. MayJudge name old new) i (may_judge more shown c d second two i low)) j (omega (arith, all)) past;
       others = none_beyond (others second two);
     },
     one.1,
   ) where
-    others : (second : Result (Unit {0}) RefusedPlate) → JudgesShare more shown c d second → (i : ℕ) → length more ≤ i → tray_at d i ≡ tray_at c i
+    others : (second : Result (Unit {0}) PlateErrorAt) → JudgesShare more shown c d second → (i : ℕ) → length more ≤ i → tray_at d i ≡ tray_at c i
     others (Ok x) judges = judges.others
-    others (Err stop) judges = judges.0.others
+    others (Err error) judges = judges.0.others
 
 -- the same, by the words and the trays that the lists stand in
-module _ {S X : Type 0} (text : S → List ℕ) (state : X → TrayState) (inputs more : List S) (headers shown : List Header) (a b c d : List X) (first second : Result (Unit {0}) RefusedPlate) where
+module _ {S X : Type 0} (text : S → List ℕ) (state : X → TrayState) (inputs more : List S) (headers shown : List Header) (a b c d : List X) (first second : Result (Unit {0}) PlateErrorAt) where
   Joined : List (List ℕ) → List TrayState → ℕ → Type 0
-  Joined names old n = JudgesShare names (headers ++ shown) old (map state (b ++ d)) (first_refusal n first second)
+  Joined names old n = JudgesShare names (headers ++ shown) old (map state (b ++ d)) (first_error n first second)
 
   share_of_both : length headers ≡ length inputs → length a ≡ length inputs → length b ≡ length inputs → JudgesShare (map text inputs) headers (map state a) (map state b) first → JudgesShare (map text more) shown (map state c) (map state d) second → Joined (map text inputs ++ map text more) (map state a ++ map state c) (length inputs)
   unfolding Joined
   share_of_both headed before after one two =
-      subst (λ (new : List TrayState). JudgesShare (map text inputs ++ map text more) (headers ++ shown) (map state a ++ map state c) new (first_refusal (length inputs) first second)) (sym (map-append state b d))
+      subst (λ (new : List TrayState). JudgesShare (map text inputs ++ map text more) (headers ++ shown) (map state a ++ map state c) new (first_error (length inputs) first second)) (sym (map-append state b d))
       (shares_joined (map text inputs) (map text more) headers shown (map state a) (map state b) (map state c) (map state d) (length inputs) (length-map inputs text) headed (length-map a state ∙ before) (length-map b state ∙ after) first second one two)
 
-  pub shares_of : (all : List S) (trays : List X) (n : ℕ) (result : Result (Unit {0}) RefusedPlate) → all ≡ inputs ++ more → trays ≡ a ++ c → length inputs ≡ n → length headers ≡ n → length a ≡ n → length b ≡ n → result ≡ first_refusal n first second → JudgesShare (map text inputs) headers (map state a) (map state b) first → JudgesShare (map text more) shown (map state c) (map state d) second → JudgesShare (map text all) (headers ++ shown) (map state trays) (map state (b ++ d)) result
+  pub shares_of : (all : List S) (trays : List X) (n : ℕ) (result : Result (Unit {0}) PlateErrorAt) → all ≡ inputs ++ more → trays ≡ a ++ c → length inputs ≡ n → length headers ≡ n → length a ≡ n → length b ≡ n → result ≡ first_error n first second → JudgesShare (map text inputs) headers (map state a) (map state b) first → JudgesShare (map text more) shown (map state c) (map state d) second → JudgesShare (map text all) (headers ++ shown) (map state trays) (map state (b ++ d)) result
   unfolding Joined
   shares_of all trays n result words old count headed before after is one two =
       let names = ap (map text) words ∙ map-append text inputs more in
       let states = ap (map state) old ∙ map-append state a c in
       let both = share_of_both (headed ∙ sym count) (before ∙ sym count) (after ∙ sym count) one two in
-      subst (λ (r : Result (Unit {0}) RefusedPlate). JudgesShare (map text all) (headers ++ shown) (map state trays) (map state (b ++ d)) r) (sym is)
+      subst (λ (r : Result (Unit {0}) PlateErrorAt). JudgesShare (map text all) (headers ++ shown) (map state trays) (map state (b ++ d)) r) (sym is)
       (subst (λ (l : List (List ℕ)). Joined l (map state trays) n) (sym names)
       (subst (λ (l : List TrayState). Joined (map text inputs ++ map text more) l n) (sym states)
       (subst (λ (k : ℕ). Joined (map text inputs ++ map text more) (map state a ++ map state c) k) count both)))

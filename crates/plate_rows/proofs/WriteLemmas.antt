@@ -1,11 +1,11 @@
 -- Plates that are written, one after the other.
 use Rattle.std.proofs.Common.{◌≡◌, ℕ, ◌+◌, ◌<◌, List, length, map, get_or, Some, Ok, Err, sym, ◌∙◌, subst, arith, ◌-◌, [], ◌∷◌, ◌++◌, take, ap}
 use Rattle.std.specs.Prelude.{slice_set}
-use Rattle.outside.specs.declared.tray.Failed.{Failed}
-use Rattle.outside.specs.Causes.{Asks}
+use Rattle.outside.specs.declared.tray.DeviceError.{DeviceError}
+use Rattle.outside.specs.ErrorCases.{Asks}
 use Rattle.outside.specs.Rack.{RackState, put}
 use Rattle.outside.proofs.Files.{grows_put}
-use Rattle.outside.proofs.Steps.{kept_then, told_on}
+use Rattle.outside.proofs.Steps.{kept_then, reported_on}
 use Rattle.pgm_plates.specs.Planes.{plate_of}
 use Rattle.pgm_plates.specs.Plates.{raster, spelled_header}
 use Rattle.pgm_plates.proofs.Decisions.{raster_both}
@@ -13,7 +13,7 @@ use Rattle.std.proofs.Math.Seq.{take-append_seam}
 use Rattle.std.proofs.lemmas.List.{append_assoc, map-append}
 use Rattle.pgm_plates.specs.declared.header.Header.{Header}
 use Rattle.pgm_plates.specs.Rows.{BeginsImage, EndsImage, WritesRows, plane_with, spelled_so_far}
-use Rattle.refusals.specs.declared.refusal.Refusal.TheVariants.{Write}
+use Rattle.common_errors.specs.declared.common.CommonError.TheVariants.{Write}
 use Rattle.plate_rows.specs.Images.{BeginsImages, CreatesAt, EndsImages, FinishesAt, WritesAt, WritesNext}
 use Rattle.plate_rows.specs.Laws.{WritingBreaks, WritingEnds, WritingGrows, WritingHolds, WritingLeaves}
 use Rattle.plate_rows.specs.Racks.{EachRack, no_rack, rack_at}
@@ -25,19 +25,19 @@ module _ {X : Type 0} (f : X → RackState) (a : List RackState) (xs : List X) (
   pub created : (names : List (List ℕ)) (header : Header) → EachRack k (CreatesAt names header) a (map f xs) → BeginsImage (name_at names k) header (f (get_or xs k d)) (f x) (Ok tt) → EachRack (k + 1) (CreatesAt names header) a (map f (slice_set xs k x))
   created names header so_far here = set_more f no_rack xs k d x within (CreatesAt names header) a so_far here
 
-  pub not_created : (names : List (List ℕ)) (header : Header) (failed : Failed) → k < length names → EachRack k (CreatesAt names header) a (map f xs) → BeginsImage (name_at names k) header (f (get_or xs k d)) (f x) (Err failed) → BeginsImages names header a (map f (slice_set xs k x)) (Err (Write (Some k)))
+  pub not_created : (names : List (List ℕ)) (header : Header) (failed : DeviceError) → k < length names → EachRack k (CreatesAt names header) a (map f xs) → BeginsImage (name_at names k) header (f (get_or xs k d)) (f x) (Err failed) → BeginsImages names header a (map f (slice_set xs k x)) (Err (Write (Some k)))
   not_created names header failed named so_far here = set_stops f no_rack xs k d x within (CreatesAt names header) _ a (length names) named so_far (failed, here)
 
   pub written : (header : Header) (rows : ℕ → List ℕ) → EachRack k (WritesAt header rows) a (map f xs) → WritesRows header (rows k) (f (get_or xs k d)) (f x) (Ok tt) → EachRack (k + 1) (WritesAt header rows) a (map f (slice_set xs k x))
   written header rows so_far here = set_more f no_rack xs k d x within (WritesAt header rows) a so_far here
 
-  pub not_written : (header : Header) (rows : ℕ → List ℕ) (failed : Failed) → EachRack k (WritesAt header rows) a (map f xs) → WritesRows header (rows k) (f (get_or xs k d)) (f x) (Err failed) → WritesNext count header rows a (map f (slice_set xs k x)) (Err (Write (Some k)))
+  pub not_written : (header : Header) (rows : ℕ → List ℕ) (failed : DeviceError) → EachRack k (WritesAt header rows) a (map f xs) → WritesRows header (rows k) (f (get_or xs k d)) (f x) (Err failed) → WritesNext count header rows a (map f (slice_set xs k x)) (Err (Write (Some k)))
   not_written header rows failed so_far here = set_stops f no_rack xs k d x within (WritesAt header rows) _ a count known so_far (failed, here)
 
   pub finished : EachRack k FinishesAt a (map f xs) → EndsImage (f (get_or xs k d)) (f x) (Ok tt) → EachRack (k + 1) FinishesAt a (map f (slice_set xs k x))
   finished so_far here = set_more f no_rack xs k d x within FinishesAt a so_far here
 
-  pub not_finished : (failed : Failed) → EachRack k FinishesAt a (map f xs) → EndsImage (f (get_or xs k d)) (f x) (Err failed) → EndsImages count a (map f (slice_set xs k x)) (Err (Write (Some k)))
+  pub not_finished : (failed : DeviceError) → EachRack k FinishesAt a (map f xs) → EndsImage (f (get_or xs k d)) (f x) (Err failed) → EndsImages count a (map f (slice_set xs k x)) (Err (Write (Some k)))
   not_finished failed so_far here = set_stops f no_rack xs k d x within FinishesAt _ a count known so_far (failed, here)
 
 pub writing_grows : WritingGrows
@@ -92,11 +92,11 @@ writing_holds name header tints more a b has =
     record {
       keeps = kept_then a has.created b has.creates.keeps has.writes.keeps;
       asked = subst (λ o. Asks a.asked o (name ∷ [])) (sym has.writes.asked) has.creates.asked;
-      told = λ tells. has.writes.told (told_on a has.created has.creates.keeps tells) ∙ has.creates.told tells;
+      reported = λ tells. has.writes.reported (reported_on a has.created has.creates.keeps tells) ∙ has.creates.reported tells;
       finished = has.writes.finished ∙ has.creates.finished;
       is_open = has.is_open;
       well = has.writes.well ∙ has.creates.fails.well;
       file = λ tells.
-          grows_put name bytes a has.created b (has.creates.current tells) (has.creates.files tells) (has.writes.files (told_on a has.created has.creates.keeps tells))
+          grows_put name bytes a has.created b (has.creates.current tells) (has.creates.files tells) (has.writes.files (reported_on a has.created has.creates.keeps tells))
           ∙ ap (λ (x : List ℕ). put name x a.file) (sym first);
     }

@@ -7,7 +7,7 @@ use Rattle.outside.specs.Tray.{TrayState}
 use Rattle.pgm_plates.specs.declared.bounds.Bounds.TheVariants.{Sheet}
 use Rattle.pgm_plates.specs.declared.header.Header.{Header}
 use Rattle.pgm_plates.specs.declared.plate.Plate.{Plate}
-use Rattle.pgm_plates.specs.declared.plate.PlateRefusal.{PlateRefusal}
+use Rattle.pgm_plates.specs.declared.plate.PlateError.{PlateError}
 use Rattle.pgm_plates.specs.Plates.{IsPlateFileWithin, IsPlateWithin}
 use Rattle.plate_rows.specs.Judging.{JudgesPlates, RefusesFirst}
 use Rattle.plate_rows.specs.Trays.{IsCalm, MayTakeFile, TakesFile, TakesFiles, header_in, name_at}
@@ -32,7 +32,7 @@ pub record ArePlates (names : List (List ℕ)) (headers : List Header) (count : 
   pub all : length plates ≡ count
   pub in_range : All (IsPlateWithin Sheet) plates
   pub same : map header_in plates ≡ take count headers
-  pub told : (k : ℕ) → k < count → Tells (name_at names k) (tray_at trays k) (plate_at plates k)
+  pub reported : (k : ℕ) → k < count → Tells (name_at names k) (tray_at trays k) (plate_at plates k)
 
 -- All plates were judged, and no fault of a tray was passed over.
 pub record AreJudged (names : List (List ℕ)) (headers : List Header)
@@ -63,7 +63,7 @@ JudgingEnds = (names : List (List ℕ)) (headers : List Header) (before after : 
 
 -- Where plate k is refused, whatever for, this is so.
 abbrev pub JudgingStops : Type 0
-JudgingStops = (names : List (List ℕ)) (headers : List Header) (k : ℕ) (refusal : PlateRefusal)
+JudgingStops = (names : List (List ℕ)) (headers : List Header) (k : ℕ) (common_error : PlateError)
     (before after : List TrayState) → length names ≤ length headers
-    → RefusesFirst names headers k refusal before after
+    → RefusesFirst names headers k common_error before after
     → AreJudgedTo names headers k before after

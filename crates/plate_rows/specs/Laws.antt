@@ -11,14 +11,14 @@ use Rattle.pgm_plates.specs.declared.rows.OpenPlate.{OpenPlate}
 use Rattle.pgm_plates.specs.Plates.{IsPlateFileWithin}
 use Rattle.pgm_plates.specs.Reading.{ReadsPlateWithin}
 use Rattle.pgm_plates.specs.Rows.{HasWritten, plate_with, samples_of, spelled_so_far}
-use Rattle.refusals.specs.declared.refusal.Refusal.TheVariants.{Write}
+use Rattle.common_errors.specs.declared.common.CommonError.TheVariants.{Write}
 use Rattle.plate_rows.specs.Images.{AreWritten, BreaksRows, EndsImages, HaveWritten}
 use Rattle.plate_rows.specs.Images.{HoldsBytes, LeavesFiles, WritesNext}
 use Rattle.plate_rows.specs.Rereading.{BeginsPlates, EndsPlates, HasChanged, HaveRead, ReadsNext}
 use Rattle.plate_rows.specs.Rereading.{StopsBegun, StopsReading, new_rows, wanted}
 use Rattle.plate_rows.specs.Trays.{EachTray, header_at, header_in, name_at, open_at}
 use Rattle.plate_rows.specs.declared.rereading.NextRows.{NextRows}
-use Rattle.plate_rows.specs.declared.stop.RereadError.{RereadError}
+use Rattle.plate_rows.specs.declared.error.RereadError.{RereadError}
 
 -- A plate whose file the tray tells does not change.
 abbrev pub NoChange : Type 0
@@ -37,7 +37,7 @@ ReadingBegins = (names : List (List ℕ)) (headers : List Header) (plates : List
 pub record AreReadTo (plates : List OpenPlate) (samples : ℕ → List ℕ) (done : ℕ)
     (more : ℕ → ℕ) : Type 0 where
   pub count : (k : ℕ) → k < length plates → length (samples k) ≡ done
-  pub room : (k : ℕ) → k < length plates → done + more k ≤ samples_of (open_at plates k).header
+  pub workspace : (k : ℕ) → k < length plates → done + more k ≤ samples_of (open_at plates k).header
 
 -- What was read so far grows by the rows that are read.
 abbrev pub ReadingGrows : Type 0
@@ -62,31 +62,31 @@ ReadingEnds = (names : List (List ℕ)) (plates : List OpenPlate) (samples : ℕ
 -- Where a call of a second reading stops, this is so of the whole reading.
 abbrev pub ReadingStops : Type 0
 ReadingStops = (names : List (List ℕ)) (headers : List Header) (plates : List OpenPlate)
-    (before after : List TrayState) (stop : RereadError)
-    → BeginsPlates names headers plates before after (Err stop)
-    → StopsReading names (header_at headers) (length names) before after stop
+    (before after : List TrayState) (error : RereadError)
+    → BeginsPlates names headers plates before after (Err error)
+    → StopsReading names (header_at headers) (length names) before after error
 
 -- the header of plate k
 abbrev pub header_of : List OpenPlate → ℕ → Header
 header_of plates k = (open_at plates k).header
 
 -- .. where rows are read
-abbrev pub RowsStop : Type 0
-RowsStop = (names : List (List ℕ)) (plates : List OpenPlate) (samples : ℕ → List ℕ)
+abbrev pub RowsError : Type 0
+RowsError = (names : List (List ℕ)) (plates : List OpenPlate) (samples : ℕ → List ℕ)
     (next : NextRows) (old new : List Plane) (start before after : List TrayState)
-    (stop : RereadError) → HaveRead names plates (length plates) samples start before
+    (error : RereadError) → HaveRead names plates (length plates) samples start before
     → AreReadTo plates samples next.done (wanted next.kept old)
-    → ReadsNext plates next old new before after (Err stop)
-    → StopsBegun names (header_of plates) (length plates) start after stop
+    → ReadsNext plates next old new before after (Err error)
+    → StopsBegun names (header_of plates) (length plates) start after error
 
 -- .. and where the plates are ended
-abbrev pub EndsStop : Type 0
-EndsStop = (names : List (List ℕ)) (plates : List OpenPlate) (samples : ℕ → List ℕ)
-    (start before after : List TrayState) (stop : RereadError)
+abbrev pub EndsError : Type 0
+EndsError = (names : List (List ℕ)) (plates : List OpenPlate) (samples : ℕ → List ℕ)
+    (start before after : List TrayState) (error : RereadError)
     → HaveRead names plates (length plates) samples start before
     → ((k : ℕ) → k < length plates → length (samples k) ≡ samples_of (open_at plates k).header)
-    → EndsPlates plates before after (Err stop)
-    → StopsBegun names (header_of plates) (length plates) start after stop
+    → EndsPlates plates before after (Err error)
+    → StopsBegun names (header_of plates) (length plates) start after error
 
 -- What was written so far grows by the rows that are written.
 abbrev pub WritingGrows : Type 0

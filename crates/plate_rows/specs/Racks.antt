@@ -8,7 +8,7 @@ abbrev pub no_rack : RackState
 no_rack = record {
   tells = false;
   file = λ name. None;
-  told = [];
+  reported = [];
   is_open = false;
   current = [];
   asked = None;

@@ -8,14 +8,14 @@ use Rattle.page_model.specs.Planes.{plane_at}
 use Rattle.pgm_plates.specs.declared.bounds.Bounds.TheVariants.{Sheet}
 use Rattle.pgm_plates.specs.declared.header.Header.{Header}
 use Rattle.pgm_plates.specs.declared.plate.PlateFault.{PlateFault}
-use Rattle.pgm_plates.specs.declared.plate.PlateRefusal.{PlateRefusal}
-use Rattle.pgm_plates.specs.declared.plate.PlateRefusal.TheVariants.{Fault, ReadFault}
+use Rattle.pgm_plates.specs.declared.plate.PlateError.{PlateError}
+use Rattle.pgm_plates.specs.declared.plate.PlateError.TheVariants.{Fault, ReadFault}
 use Rattle.pgm_plates.specs.declared.rows.OpenPlate.{OpenPlate}
 use Rattle.pgm_plates.specs.Reading.{ReadsPlateWithin}
 use Rattle.pgm_plates.specs.Rows.{EndsPlate, HasRead, ReadsRows, ReadsSome, samples_of}
 use Rattle.plate_rows.specs.declared.rereading.NextRows.{NextRows}
-use Rattle.plate_rows.specs.declared.stop.RereadError.{RereadError}
-use Rattle.plate_rows.specs.declared.stop.RereadError.TheVariants.{Changed, Unread}
+use Rattle.plate_rows.specs.declared.error.RereadError.{RereadError}
+use Rattle.plate_rows.specs.declared.error.RereadError.TheVariants.{Changed, Unread}
 use Rattle.plate_rows.specs.Judging.{Refuses}
 use Rattle.plate_rows.specs.Trays.{EachTray, IsCalm, TakesFiles, TrayStops, header_at, name_at}
 use Rattle.plate_rows.specs.Trays.{open_at, tray_at}
@@ -53,9 +53,9 @@ BeginsOne name header k before after (Err (Unread at)) =
     (at ≡ k) × ReadsPlateWithin Sheet name before after (Err ReadFault)
 
 -- where a second reading stops, by what plate k is refused for
-abbrev pub stop_at : ℕ → PlateRefusal → RereadError
-stop_at k (Fault fault) = Changed k
-stop_at k other = Unread k
+abbrev pub error_at : ℕ → PlateError → RereadError
+error_at k (Fault fault) = Changed k
+error_at k other = Unread k
 
 -- plate k is begun once more
 abbrev pub BeginsAt : List (List ℕ) → List Header → List OpenPlate → ℕ → TrayState → TrayState
@@ -84,7 +84,7 @@ pub record IsReadTo (plate : OpenPlate) (done more : ℕ) (now : TrayState) : Ty
   pub samples : List ℕ
   pub read : HasRead Sheet name start now plate samples
   pub count : length samples ≡ done
-  pub room : done + more ≤ samples_of plate.header
+  pub workspace : done + more ≤ samples_of plate.header
 
 -- the samples that these tints are, or the tints that these samples are
 abbrev pub turned : ℕ → List ℕ → List ℕ
@@ -92,12 +92,12 @@ turned maxval values = map (λ v. maxval - v) values
 
 -- The next samples of a plate are read and turned into these tints, or it is refused.
 abbrev pub ReadsTints : OpenPlate → ℕ → List ℕ → TrayState → TrayState
-    → Result (Unit {0}) PlateRefusal → Type 0
+    → Result (Unit {0}) PlateError → Type 0
 ReadsTints plate done tints before after (Ok x) =
     ReadsRows plate done (turned plate.header.maxval tints) before after (Ok x)
     × All (λ t. t ≤ plate.header.maxval) tints
-ReadsTints plate done tints before after (Err refusal) =
-    ReadsSome plate done (length tints) before after (Err refusal)
+ReadsTints plate done tints before after (Err common_error) =
+    ReadsSome plate done (length tints) before after (Err common_error)
 
 -- The first tints are kept; all others are new, and none of them is above the maxval.
 pub record AreFilled (most kept : ℕ) (old new : List ℕ) : Type 0 where
@@ -107,13 +107,13 @@ pub record AreFilled (most kept : ℕ) (old new : List ℕ) : Type 0 where
 
 -- The same, after the tints that are kept.
 abbrev pub ReadsAfter : OpenPlate → NextRows → List ℕ → List ℕ → TrayState → TrayState
-    → Result (Unit {0}) PlateRefusal → Type 0
+    → Result (Unit {0}) PlateError → Type 0
 ReadsAfter plate next old new before after (Ok x) =
     AreFilled plate.header.maxval next.kept old new
     × ReadsRows plate next.done (turned plate.header.maxval (drop next.kept new)) before after
     (Ok x)
-ReadsAfter plate next old new before after (Err refusal) =
-    ReadsSome plate next.done (length old - next.kept) before after (Err refusal)
+ReadsAfter plate next old new before after (Err common_error) =
+    ReadsSome plate next.done (length old - next.kept) before after (Err common_error)
 
 -- A plane's tints are filled so, and all else of it stays.
 pub record IsRefilled (most kept : ℕ) (old new : Plane) : Type 0 where
@@ -124,13 +124,13 @@ pub record IsRefilled (most kept : ℕ) (old new : Plane) : Type 0 where
 
 -- The next samples of a plate are read into a plane, after the tints that are kept.
 abbrev pub ReadsPlane : OpenPlate → NextRows → Plane → Plane → TrayState → TrayState
-    → Result (Unit {0}) PlateRefusal → Type 0
+    → Result (Unit {0}) PlateError → Type 0
 ReadsPlane plate next old new before after (Ok x) =
     IsRefilled plate.header.maxval next.kept old new
     × ReadsRows plate next.done (turned plate.header.maxval (drop next.kept new.tints)) before after
     (Ok x)
-ReadsPlane plate next old new before after (Err refusal) =
-    ReadsSome plate next.done (length old.tints - next.kept) before after (Err refusal)
+ReadsPlane plate next old new before after (Err common_error) =
+    ReadsSome plate next.done (length old.tints - next.kept) before after (Err common_error)
 
 -- how many tints of plane k are to be read, where `kept` are kept
 abbrev pub wanted : ℕ → List Plane → ℕ → ℕ
@@ -215,6 +215,6 @@ StopsReading names header count before after (Unread k) = Interrupts names count
 
 -- .. where all plates were opened again before it stopped
 pub record StopsBegun (names : List (List ℕ)) (header : ℕ → Header) (count : ℕ)
-    (before after : List TrayState) (stop : RereadError) : Type 0 where
-  pub stops : StopsReading names header count before after stop
+    (before after : List TrayState) (error : RereadError) : Type 0 where
+  pub stops : StopsReading names header count before after error
   pub all : TakesFiles names count before after

@@ -4,11 +4,11 @@ ghost use Rattle.page_model.specs.Limits.{most_maxval, most_plates};
 ghost use Rattle.plate_rows.specs.Images.{BeginsImages, EndsImages, WritesNext, part_at};
 ghost use Rattle.plate_rows.specs.Racks.{rack_at};
 
+use common_errors::common::CommonError;
 use outside::rack::Rack;
-use outside::tray::Failed;
+use outside::tray::DeviceError;
 use pgm_plates::rows::Header;
 use pgm_plates::writing::{begin_image, end_image, write_rows};
-use refusals::refusal::Refusal;
 use std::convert::AsStr;
 
 /// Creates the files of these names, file k by rack k, and writes the header to each of them. It allocates nothing.
@@ -18,7 +18,7 @@ pub fn begin_images<R: Rack, S: AsStr>(
     racks: &mut [R],
     outputs: &[S],
     header: Header,
-) -> Result<(), Refusal>
+) -> Result<(), CommonError>
     requires few { length outputs.now ≤ most_plates }
     requires racks { length outputs.now ≤ length racks.old }
     ensures { BeginsImages (map S.text outputs.now) header (map R.state racks.old)
@@ -27,7 +27,7 @@ pub fn begin_images<R: Rack, S: AsStr>(
     for place in 0..outputs.len() {
         match begin_image(&mut racks[place], outputs[place].as_str(), header) {
             Ok(()) => {}
-            Err(Failed) => return Err(Refusal::Write(Some(place as u32))),
+            Err(DeviceError) => return Err(CommonError::Write(Some(place as u32))),
         }
     }
     Ok(())
@@ -44,12 +44,12 @@ pub fn write_next<R: Rack>(
     tints: &[u16],
     each: usize,
     bytes: &mut [u8],
-) -> Result<(), Refusal>
+) -> Result<(), CommonError>
     requires few { count ≤ most_plates }
     requires racks { count ≤ length racks.old }
     requires open { (k : ℕ) → k < count → IsTrue (rack_at (map R.state racks.old) k).is_open }
     requires tints { length tints.now ≡ count * each }
-    requires room { 2 ≤ length bytes.old }
+    requires workspace { 2 ≤ length bytes.old }
     requires maxval { header.maxval ≤ most_maxval }
     requires fits { All (λ t. t ≤ header.maxval) tints.now }
     ensures { WritesNext count header (part_at each tints.now) (map R.state racks.old)
@@ -60,7 +60,7 @@ pub fn write_next<R: Rack>(
         let part = &tints[from..from + each];
         match write_rows(&mut racks[place], header, part, bytes) {
             Ok(()) => {}
-            Err(Failed) => return Err(Refusal::Write(Some(place as u32))),
+            Err(DeviceError) => return Err(CommonError::Write(Some(place as u32))),
         }
     }
     Ok(())
@@ -69,7 +69,7 @@ pub fn write_next<R: Rack>(
 /// Finishes the files of `count` plates, file k by rack k.
 ///
 /// Where that fails, it stops with `Write` and the plate's number.
-pub fn end_images<R: Rack>(racks: &mut [R], count: usize) -> Result<(), Refusal>
+pub fn end_images<R: Rack>(racks: &mut [R], count: usize) -> Result<(), CommonError>
     requires few { count ≤ most_plates }
     requires racks { count ≤ length racks.old }
     requires open { (k : ℕ) → k < count → IsTrue (rack_at (map R.state racks.old) k).is_open }
@@ -78,7 +78,7 @@ pub fn end_images<R: Rack>(racks: &mut [R], count: usize) -> Result<(), Refusal>
     for place in 0..count {
         match end_image(&mut racks[place]) {
             Ok(()) => {}
-            Err(Failed) => return Err(Refusal::Write(Some(place as u32))),
+            Err(DeviceError) => return Err(CommonError::Write(Some(place as u32))),
         }
     }
     Ok(())

@@ -1,7 +1,7 @@
 //! Laws of reading and writing by rows, each the contract of an empty function: a caller that calls it has the law.
 
 ghost use Rattle.plate_rows.specs.Judged.{JudgingEnds, JudgingStops};
-ghost use Rattle.plate_rows.specs.Laws.{EndsStop, NoChange, ReadingBegins, ReadingEnds, ReadingGrows, ReadingStops, RowsStop, WritingBreaks, WritingEnds, WritingGrows, WritingHolds, WritingLeaves};
+ghost use Rattle.plate_rows.specs.Laws.{EndsError, NoChange, ReadingBegins, ReadingEnds, ReadingGrows, ReadingStops, RowsError, WritingBreaks, WritingEnds, WritingGrows, WritingHolds, WritingLeaves};
 
 use pgm_plates::bounds::Bounds;
 use pgm_plates::laws::{file_fault_within, file_plate_within, not_both_within, top_of_file_within};
@@ -34,8 +34,8 @@ pub fn reading_goes_on()
 /// What holds if a second reading stops: at the beginning of the plates, at their rows, or at their ends.
 pub fn reading_stops()
     ensures begun { ReadingStops }
-    ensures rows { RowsStop }
-    ensures ended { EndsStop }
+    ensures rows { RowsError }
+    ensures ended { EndsError }
 {}
 
 /// What was written of each plate so far: the next rows more with each call, or if that fails a prefix of each file;

@@ -2,16 +2,16 @@ ghost use Rattle.std.specs.Prelude.{◌≡◌, ◌≢◌, ◌<◌, ◌≤◌, �
 ghost use Rattle.page_model.specs.Planes.{plane_at};
 ghost use Rattle.pgm_plates.specs.Limits.{most_header};
 ghost use Rattle.pgm_plates.specs.Rows.{samples_of};
-ghost use Rattle.plate_rows.specs.Rereading.{BeginsOne, BeginsPlates, EndsPlates, IsReadTo, ReadsAfter, ReadsNext, ReadsPlane, ReadsTints, stop_at, wanted};
+ghost use Rattle.plate_rows.specs.Rereading.{BeginsOne, BeginsPlates, EndsPlates, IsReadTo, ReadsAfter, ReadsNext, ReadsPlane, ReadsTints, error_at, wanted};
 ghost use Rattle.plate_rows.specs.Trays.{open_at, tray_at};
 ghost use Rattle.page_model.specs.Limits.{most_plates};
 
-use crate::stop::RereadError;
+use crate::error::RereadError;
 use lists::list::List;
 use outside::tray::Tray;
 use page_model::parts::Plane;
 use pgm_plates::bounds::Bounds;
-use pgm_plates::plate::PlateRefusal;
+use pgm_plates::plate::PlateError;
 use pgm_plates::rows::{Header, OpenPlate, begin_plate, end_plate, read_rows};
 use pgm_plates::turning::turn;
 use std::alloc::Global;
@@ -51,7 +51,7 @@ pub fn begin_plates<T: Tray, S: AsStr>(
             headers[place],
         ) {
             Ok(plate) => plates[place] = plate,
-            Err(stop) => return Err(stop),
+            Err(error) => return Err(error),
         }
     }
     Ok(())
@@ -74,17 +74,17 @@ fn begin_one<T: Tray>(
                 Err(RereadError::Changed(plate))
             }
         }
-        Err(refusal) => Err(stop_of(plate, refusal)),
+        Err(common_error) => Err(error_of(plate, common_error)),
     }
 }
 
 // The error of the second reading: a fault is a change, since the plate had none before.
-fn stop_of(plate: u32, refusal: PlateRefusal) -> RereadError
-    ensures { result ≡ stop_at plate refusal }
+fn error_of(plate: u32, common_error: PlateError) -> RereadError
+    ensures { result ≡ error_at plate common_error }
 {
-    match refusal {
-        PlateRefusal::Fault(_) => RereadError::Changed(plate),
-        PlateRefusal::ReadFault | PlateRefusal::OutOfMemory => RereadError::Unread(plate),
+    match common_error {
+        PlateError::Fault(_) => RereadError::Changed(plate),
+        PlateError::ReadFault | PlateError::OutOfMemory => RereadError::Unread(plate),
     }
 }
 
@@ -109,7 +109,7 @@ pub fn read_next<T: Tray>(
     requires read { (k : ℕ) → k < length plates.now
         → IsReadTo (open_at plates.now k) next.done (wanted next.kept planes.old k)
         (tray_at (map T.state trays.old) k) }
-    requires room { 2 ≤ length bytes.old }
+    requires workspace { 2 ≤ length bytes.old }
     ensures { ReadsNext plates.now next planes.old planes.new (map T.state trays.old)
         (map T.state trays.new) result }
 {
@@ -123,7 +123,7 @@ pub fn read_next<T: Tray>(
             bytes,
         ) {
             Ok(()) => {}
-            Err(refusal) => return Err(stop_of(place as u32, refusal)),
+            Err(common_error) => return Err(error_of(place as u32, common_error)),
         }
     }
     Ok(())
@@ -137,14 +137,14 @@ fn read_plane<T: Tray>(
     next: NextRows,
     plane: &mut Plane,
     bytes: &mut [u8],
-) -> Result<(), PlateRefusal>
+) -> Result<(), PlateError>
     requires kept { next.kept ≤ length plane.old.tints }
     requires read { let more = length plane.old.tints - next.kept in
         IsReadTo plate next.done more (T.state tray.old) }
-    requires room { 2 ≤ length bytes.old }
+    requires workspace { 2 ≤ length bytes.old }
     ensures answer { ReadsPlane plate next plane.old plane.new (T.state tray.old)
         (T.state tray.new) result }
-    ensures memory { result ≢ Err PlateRefusal.OutOfMemory }
+    ensures memory { result ≢ Err PlateError.OutOfMemory }
 {
     let mut tints = std::mem::replace(&mut plane.tints, List::new(alloc)).into_vec();
     let result = read_after(tray, plate, next, tints.as_mut_slice(), bytes);
@@ -159,14 +159,14 @@ fn read_after<T: Tray>(
     next: NextRows,
     tints: &mut [u16],
     bytes: &mut [u8],
-) -> Result<(), PlateRefusal>
+) -> Result<(), PlateError>
     requires kept { next.kept ≤ length tints.old }
     requires read { let more = length tints.old - next.kept in
         IsReadTo plate next.done more (T.state tray.old) }
-    requires room { 2 ≤ length bytes.old }
+    requires workspace { 2 ≤ length bytes.old }
     ensures answer { ReadsAfter plate next tints.old tints.new (T.state tray.old)
         (T.state tray.new) result }
-    ensures memory { result ≢ Err PlateRefusal.OutOfMemory }
+    ensures memory { result ≢ Err PlateError.OutOfMemory }
 {
     read_tints(tray, plate, next.done, &mut tints[next.kept..], bytes)
 }
@@ -180,11 +180,11 @@ pub fn read_tints<T: Tray>(
     done: u64,
     tints: &mut [u16],
     bytes: &mut [u8],
-) -> Result<(), PlateRefusal>
+) -> Result<(), PlateError>
     requires read { IsReadTo plate done (length tints.old) (T.state tray.old) }
-    requires room { 2 ≤ length bytes.old }
+    requires workspace { 2 ≤ length bytes.old }
     ensures answer { ReadsTints plate done tints.new (T.state tray.old) (T.state tray.new) result }
-    ensures memory { result ≢ Err PlateRefusal.OutOfMemory }
+    ensures memory { result ≢ Err PlateError.OutOfMemory }
 {
     let most = samples_at_once(bytes.len(), plate.header.maxval);
     let mut filled = 0usize;
@@ -198,7 +198,7 @@ pub fn read_tints<T: Tray>(
             bytes,
         ) {
             Ok(()) => filled += want,
-            Err(refusal) => return Err(refusal),
+            Err(common_error) => return Err(common_error),
         }
     }
     Ok(())
@@ -219,18 +219,18 @@ fn read_piece<T: Tray>(
     done: u64,
     tints: &mut [u16],
     bytes: &mut [u8],
-) -> Result<(), PlateRefusal>
+) -> Result<(), PlateError>
     requires read { IsReadTo plate done (length tints.old) (T.state tray.old) }
-    requires room { 2 ≤ length bytes.old }
+    requires workspace { 2 ≤ length bytes.old }
     ensures answer { ReadsTints plate done tints.new (T.state tray.old) (T.state tray.new) result }
-    ensures memory { result ≢ Err PlateRefusal.OutOfMemory }
+    ensures memory { result ≢ Err PlateError.OutOfMemory }
 {
     match read_rows(tray, plate, done, tints, bytes) {
         Ok(()) => {
             turn(tints, plate.header.maxval);
             Ok(())
         }
-        Err(refusal) => Err(refusal),
+        Err(common_error) => Err(common_error),
     }
 }
 
@@ -251,7 +251,7 @@ pub fn end_plates<T: Tray>(trays: &mut [T], plates: &[OpenPlate]) -> Result<(), 
     for place in 0..plates.len() {
         match end_plate(&mut trays[place], plates[place]) {
             Ok(()) => {}
-            Err(refusal) => return Err(stop_of(place as u32, refusal)),
+            Err(common_error) => return Err(error_of(place as u32, common_error)),
         }
     }
     Ok(())

@@ -3,10 +3,10 @@ ghost use Rattle.std.specs.Thread.{IsSend, IsSync};
 ghost use Rattle.page_model.specs.Limits.{most_plates};
 ghost use Rattle.plate_rows.specs.Judging.{JudgesPlates, JudgesShare};
 
+use crate::judging::{PlateErrorAt, error_at_plate, first_of, judge_by};
+use common_errors::common::CommonError;
 use outside::tray::Tray;
 use pgm_plates::rows::Header;
-use crate::judging::{RefusedPlate, first_of, judge_by, refusal_at_plate};
-use refusals::refusal::Refusal;
 use std::convert::AsStr;
 use std::thread;
 use std::thread::Threads;
@@ -15,7 +15,7 @@ use std::thread::Threads;
 /// threads as there are workers, or plates if these are fewer; each thread checks some of the plates in order. It
 /// allocates nothing but what threads take, and keeps nothing of a plate but its header.
 ///
-/// The refusal is that of the first refused plate in the order of the files: `Plate` with its fault, by the limits of a
+/// The error is that of the first refused plate in the order of the files: `Plate` with its fault, by the limits of a
 /// sheet, or `Read` if a read failed, each with the plate's number. Some of the plates after it may have been checked
 /// as well; which of them were begun is not said.
 pub fn judge_plates<H: Threads + Sync, T: Tray + Send, S: AsStr + Sync>(
@@ -24,7 +24,7 @@ pub fn judge_plates<H: Threads + Sync, T: Tray + Send, S: AsStr + Sync>(
     trays: &mut [T],
     inputs: &[S],
     headers: &mut [Header],
-) -> Result<(), Refusal>
+) -> Result<(), CommonError>
     requires some_workers { 1 ≤ workers }
     requires few { length inputs.now ≤ most_plates }
     requires trays { length inputs.now ≤ length trays.old }
@@ -34,7 +34,7 @@ pub fn judge_plates<H: Threads + Sync, T: Tray + Send, S: AsStr + Sync>(
 {
     match judge_share(rt, workers as usize, inputs, trays, headers) {
         Ok(()) => Ok(()),
-        Err(stop) => Err(refusal_at_plate(stop)),
+        Err(error) => Err(error_at_plate(error)),
     }
 }
 
@@ -47,7 +47,7 @@ fn judge_share<H: Threads + Sync, T: Tray + Send, S: AsStr + Sync>(
     inputs: &[S],
     trays: &mut [T],
     headers: &mut [Header],
-) -> Result<(), RefusedPlate>
+) -> Result<(), PlateErrorAt>
     requires few { length inputs.now ≤ most_plates }
     requires trays { length inputs.now ≤ length trays.old }
     requires headers { length inputs.now ≤ length headers.old }
@@ -101,7 +101,7 @@ fn judge_beside<H: Threads + Sync, T: Tray + Send, S: AsStr + Sync>(
     inputs_after: &[S],
     trays_after: &mut [T],
     headers_after: &mut [Header],
-) -> (Result<(), RefusedPlate>, Result<(), RefusedPlate>)
+) -> (Result<(), PlateErrorAt>, Result<(), PlateErrorAt>)
     requires some_workers { 1 ≤ workers }
     requires some_workers_after { 1 ≤ workers_after }
     requires few { length inputs.now ≤ most_plates }
@@ -115,7 +115,7 @@ fn judge_beside<H: Threads + Sync, T: Tray + Send, S: AsStr + Sync>(
     ensures second { JudgesShare (map S.text inputs_after.now) headers_after.new
         (map T.state trays_after.old) (map T.state trays_after.new) result.1 }
 {
-    let mut first = || -> Result<(), RefusedPlate>
+    let mut first = || -> Result<(), PlateErrorAt>
         requires bounds { IsSync H.row × IsSend T.row × IsSync S.row }
         requires few { length inputs.now ≤ most_plates }
         requires trays { length inputs.now ≤ length trays.now }
@@ -123,7 +123,7 @@ fn judge_beside<H: Threads + Sync, T: Tray + Send, S: AsStr + Sync>(
         ensures { JudgesShare (map S.text inputs.entry.now) headers.exit.now
             (map T.state trays.entry.now) (map T.state trays.exit.now) result }
     { judge_share(rt, workers, inputs, trays, headers) };
-    let mut second = || -> Result<(), RefusedPlate>
+    let mut second = || -> Result<(), PlateErrorAt>
         requires bounds { IsSync H.row × IsSend T.row × IsSync S.row }
         requires few { length inputs_after.now ≤ most_plates }
         requires trays { length inputs_after.now ≤ length trays_after.now }

@@ -1,10 +1,10 @@
 //! The program `presscheck`: passes its words, the disk and standard output to the top call.
 #![tactic(auto)]
 
+use common_errors::words::words;
 use outside::disk_rack::DiskRack;
 use outside::disk_tray::DiskTray;
 use presscheck_cli::top::presscheck_main;
-use refusals::words::words;
 use std::process::ExitCode;
 
 fn main(rt: HostRuntime) -> ExitCode {

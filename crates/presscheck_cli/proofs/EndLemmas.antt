@@ -10,15 +10,15 @@ use Rattle.page_files.specs.Steps.{PassesNoFault}
 use Rattle.page_files.proofs.GatherLemmas.{gathered, refused_count}
 use Rattle.presscheck_cli.specs.Endings.{AnswersText, ChecksPage}
 use Rattle.presscheck_cli.specs.Text.{text_of}
-use Rattle.refusals.specs.declared.refusal.Refusal.{Refusal}
-use Rattle.refusals.specs.declared.refusal.Refusal.TheVariants.{Memory}
+use Rattle.common_errors.specs.declared.common.CommonError.{CommonError}
+use Rattle.common_errors.specs.declared.common.CommonError.TheVariants.{Memory}
 
 module _ (source : Sources) (radius : ℕ) (a b : TrayState) where
   -- The page could not be read.
-  not_read : (refusal : Refusal) → Gathers source a b (Err refusal) → ChecksPage source radius a b (Err refusal)
-  not_read refusal reads = record {
+  not_read : (error : CommonError) → Gathers source a b (Err error) → ChecksPage source radius a b (Err error)
+  not_read error reads = record {
     in_hand = inr reads.in_hand;
-    count = refused_count PageParts (List ℕ) a b refusal reads.count;
+    count = refused_count PageParts (List ℕ) a b error reads.count;
     asked = reads.asked;
     answer = reads.answer;
   }
@@ -33,19 +33,19 @@ module _ (source : Sources) (radius : ℕ) (a b : TrayState) where
   }
 
   -- The page was not read, for one reason or the other.
-  pub refused_first : (refusal : Refusal) → ReadsPage source a b (Err refusal) → ChecksPage source radius a b (Err refusal)
-  refused_first refusal (inl none) =
-      let same : refusal ≡ Memory = (let e : ◌≡◌ {A = Result PageParts Refusal} (Err refusal) (Err Memory) = none.1 in cc) in
-      subst (λ (t : TrayState). ChecksPage source radius a t (Err refusal)) (sym none.0) (subst (λ (e : Refusal). ChecksPage source radius a a (Err e)) (sym same) not_begun)
-  refused_first refusal (inr reads) = not_read refusal reads
+  pub refused_first : (error : CommonError) → ReadsPage source a b (Err error) → ChecksPage source radius a b (Err error)
+  refused_first error (inl none) =
+      let same : error ≡ Memory = (let e : ◌≡◌ {A = Result PageParts CommonError} (Err error) (Err Memory) = none.1 in cc) in
+      subst (λ (t : TrayState). ChecksPage source radius a t (Err error)) (sym none.0) (subst (λ (e : CommonError). ChecksPage source radius a a (Err e)) (sym same) not_begun)
+  refused_first error (inr reads) = not_read error reads
 
-  made_text : (page : PageParts) (result : Result (List ℕ) Refusal) → Gathers source a b (Ok page) → IsPage page → MatchResult result (λ text. text ≡ text_of radius page) (λ refusal. refusal ≡ Memory) → AnswersText source radius a b result × PassesNoFault a b result
+  made_text : (page : PageParts) (result : Result (List ℕ) CommonError) → Gathers source a b (Ok page) → IsPage page → MatchResult result (λ text. text ≡ text_of radius page) (λ error. error ≡ Memory) → AnswersText source radius a b result × PassesNoFault a b result
   made_text page (Ok text) reads valid is = ((page, (valid, reads.answer.2), reads.answer.1, is), reads.count)
-  made_text page (Err refusal) reads valid is =
-      subst (λ (r : Refusal). AnswersText source radius a b (Err r) × PassesNoFault {T = List ℕ} a b (Err r)) (sym is) (tt, reads.count)
+  made_text page (Err error) reads valid is =
+      subst (λ (r : CommonError). AnswersText source radius a b (Err r) × PassesNoFault {T = List ℕ} a b (Err r)) (sym is) (tt, reads.count)
 
   -- A page that was read has its text, but for lack of memory.
-  pub read_and_made : (page : PageParts) (result : Result (List ℕ) Refusal) → ReadsPage source a b (Ok page) → IsPage page → MatchResult result (λ text. text ≡ text_of radius page) (λ refusal. refusal ≡ Memory) → ChecksPage source radius a b result
+  pub read_and_made : (page : PageParts) (result : Result (List ℕ) CommonError) → ReadsPage source a b (Ok page) → IsPage page → MatchResult result (λ text. text ≡ text_of radius page) (λ error. error ≡ Memory) → ChecksPage source radius a b result
   read_and_made page result read valid is =
       let reads = gathered source a b page read in
       let made = made_text page result reads valid is in

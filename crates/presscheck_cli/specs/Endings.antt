@@ -1,6 +1,6 @@
 -- How the steps of a check end.
 use Rattle.std.specs.Prelude.{◌≡◌, ◌⊎◌, ℕ, IsTrue, List, ◌++◌, take, Some, None, Result, Ok, Err}
-use Rattle.outside.specs.Causes.{RoseOnce, Asks, AsksPrefix}
+use Rattle.outside.specs.ErrorCases.{RoseOnce, Asks, AsksPrefix}
 use Rattle.outside.specs.Tray.{TrayState}
 use Rattle.outside.specs.Rack.{RackState}
 use Rattle.page_model.specs.declared.parts.PageParts.{PageParts}
@@ -9,19 +9,19 @@ use Rattle.page_files.specs.Inputs.{Sources, read_files}
 use Rattle.page_files.specs.Steps.{PassesNoFault}
 use Rattle.presscheck_cli.specs.Text.{text_of, usage_line}
 use Rattle.presscheck_cli.specs.Words.{CheckWords, check_of, sources_of}
-use Rattle.refusals.specs.declared.refusal.Refusal.{Refusal}
-use Rattle.refusals.specs.Statuses.{done, usage, not_written}
-use Rattle.refusals.specs.Telling.{KeepsFiles, Refuses, TellsText}
+use Rattle.common_errors.specs.declared.common.CommonError.{CommonError}
+use Rattle.common_errors.specs.Statuses.{done, usage, not_written}
+use Rattle.common_errors.specs.Telling.{KeepsFiles, Refuses, TellsText}
 
 -- What the answer says: the text of the page that was read, or why there is none.
-abbrev pub AnswersText : Sources → ℕ → TrayState → TrayState → Result (List ℕ) Refusal → Type 0
+abbrev pub AnswersText : Sources → ℕ → TrayState → TrayState → Result (List ℕ) CommonError → Type 0
 AnswersText source radius before after (Ok text) = (page : PageParts) × IsMade source before page
     × Asks before.asked after.asked (read_files source) × (text ≡ text_of radius page)
-AnswersText source radius before after (Err refusal) = AnswersPage source before after (Err refusal)
+AnswersText source radius before after (Err error) = AnswersPage source before after (Err error)
 
 -- A page is read, trapped, and counted before and after.
 pub record ChecksPage (source : Sources) (radius : ℕ) (before after : TrayState)
-    (result : Result (List ℕ) Refusal) : Type 0 where
+    (result : Result (List ℕ) CommonError) : Type 0 where
   pub in_hand : (after ≡ before) ⊎ InHand source before after
   pub count : PassesNoFault before after result
   pub asked : AsksPrefix before.asked after.asked (read_files source)
@@ -29,11 +29,11 @@ pub record ChecksPage (source : Sources) (radius : ℕ) (before after : TrayStat
 
 -- The text is printed whole, or a prefix of it where one call of the rack failed.
 pub data AnswersTell (text : List ℕ) (before after : RackState) (status : ℕ) : Type 0 where
-  told : status ≡ done → after.faults ≡ before.faults
-      → (IsTrue before.tells → after.told ≡ before.told ++ text)
+  reported : status ≡ done → after.faults ≡ before.faults
+      → (IsTrue before.tells → after.reported ≡ before.reported ++ text)
       → AnswersTell text before after status
-  told_in_part : status ≡ not_written → RoseOnce before.faults after.faults
-      → (IsTrue before.tells → (count : ℕ) × (after.told ≡ before.told ++ take count text))
+  reported_in_part : status ≡ not_written → RoseOnce before.faults after.faults
+      → (IsTrue before.tells → (count : ℕ) × (after.reported ≡ before.reported ++ take count text))
       → AnswersTell text before after status
 
 -- A result is printed, and no file is touched.
@@ -41,15 +41,15 @@ pub record TellsResult (text : List ℕ) (before after : RackState) (status : �
   pub files : KeepsFiles before after
   pub answer : AnswersTell text before after status
 
--- the text, or the line where there is a refusal
-abbrev pub Closes : Result (List ℕ) Refusal → RackState → RackState → ℕ → Type 0
+-- the text, or the line where there is a error
+abbrev pub Closes : Result (List ℕ) CommonError → RackState → RackState → ℕ → Type 0
 Closes (Ok text) before after status = TellsResult text before after status
-Closes (Err refusal) before after status = Refuses refusal before after status
+Closes (Err error) before after status = Refuses error before after status
 
--- A check is made, and its result or its refusal is printed.
+-- A check is made, and its result or its error is printed.
 pub record EndsCheck (check : CheckWords) (tray tray' : TrayState) (rack rack' : RackState)
     (status : ℕ) : Type 0 where
-  pub result : Result (List ℕ) Refusal
+  pub result : Result (List ℕ) CommonError
   pub checked : ChecksPage (sources_of check) check.radius tray tray' result
   pub closed : Closes result rack rack' status
 

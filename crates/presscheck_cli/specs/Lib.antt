@@ -1,5 +1,5 @@
 pub mod Words
-pub mod Held
+pub mod Stored
 pub mod Text
 pub mod Endings
 pub mod Clauses

@@ -3,7 +3,7 @@ use Rattle.std.specs.Prelude.{ℕ, List, ◌++◌, codes, decimal}
 use Rattle.page_model.specs.declared.parts.PageParts.{PageParts}
 use Rattle.page_model.specs.Tints.{trapped_planes}
 use Rattle.misregister.specs.Risk.{risk}
-use Rattle.refusals.specs.Lines.{line}
+use Rattle.common_errors.specs.Lines.{line}
 
 -- the radius, and how many samples are at risk before trapping and after
 abbrev pub check_text : ℕ → ℕ → ℕ → List ℕ

@@ -2,22 +2,22 @@ ghost use Rattle.std.specs.Prelude.{◌≡◌, ◌≤◌, MatchResult};
 ghost use Rattle.page_model.specs.Conditions.{IsPage};
 ghost use Rattle.page_files.specs.Gathering.{ReadsPage};
 ghost use Rattle.presscheck_cli.specs.Endings.{ChecksPage, EndsCheck, TellsResult};
-ghost use Rattle.presscheck_cli.specs.Held.{check_in, IsWithin};
+ghost use Rattle.presscheck_cli.specs.Stored.{check_in, IsWithin};
 ghost use Rattle.presscheck_cli.specs.Text.{text_of};
 ghost use Rattle.presscheck_cli.specs.Words.{sources_of};
 ghost use Rattle.misregister.specs.Limits.{most_radius};
 
 use crate::risks::page_text;
 use crate::words::PresscheckArgs;
+use common_errors::common::CommonError;
+use common_errors::statuses::{DONE, NOT_WRITTEN};
+use common_errors::telling::refuse;
 use outside::rack::Rack;
-use outside::tray::{Failed, Tray};
+use outside::tray::{DeviceError, Tray};
 use page_files::gather::gather;
 use page_model::page::Page;
 use page_model::parts::{Name, OutOfMemory};
 use plain_words::files::{input_files, input_names};
-use refusals::refusal::Refusal;
-use refusals::statuses::{DONE, NOT_WRITTEN};
-use refusals::telling::refuse;
 use std::alloc::Global;
 
 // Makes a check and prints its result, and returns the status that it ends with.
@@ -33,7 +33,7 @@ pub(crate) fn run_check<T: Tray, R: Rack>(
 {
     match check_page(alloc, check, tray) {
         Ok(text) => tell_result(rack, text.as_slice()),
-        Err(refusal) => refuse(rack, &refusal),
+        Err(error) => refuse(rack, &error),
     }
 }
 
@@ -42,7 +42,7 @@ fn tell_result<R: Rack>(rack: &mut R, text: &[u8]) -> u8
 {
     match rack.tell(text) {
         Ok(()) => DONE,
-        Err(Failed) => NOT_WRITTEN,
+        Err(DeviceError) => NOT_WRITTEN,
     }
 }
 
@@ -51,14 +51,14 @@ fn check_page<T: Tray>(
     alloc: Global,
     check: &PresscheckArgs<'_>,
     tray: &mut T,
-) -> Result<Name, Refusal>
+) -> Result<Name, CommonError>
     requires { IsWithin check.now }
     ensures { let words = check_in check.now in
         ChecksPage (sources_of words) words.radius (T.state tray.old) (T.state tray.new) result }
 {
     match read_page(alloc, check, tray) {
-        Ok(page) => text_or_refusal(alloc, &page, check.radius),
-        Err(refusal) => Err(refusal),
+        Ok(page) => text_or_error(alloc, &page, check.radius),
+        Err(error) => Err(error),
     }
 }
 
@@ -67,7 +67,7 @@ fn read_page<T: Tray>(
     alloc: Global,
     check: &PresscheckArgs<'_>,
     tray: &mut T,
-) -> Result<Page, Refusal>
+) -> Result<Page, CommonError>
     requires { IsWithin check.now }
     ensures { ReadsPage (sources_of (check_in check.now)) (T.state tray.old) (T.state tray.new)
         result }
@@ -77,18 +77,18 @@ fn read_page<T: Tray>(
         input_files(alloc, check.plates),
     ) {
         (Ok(names), Ok(inputs)) => gather(alloc, tray, check.job, &names, inputs.as_slice()),
-        _ => Err(Refusal::Memory),
+        _ => Err(CommonError::Memory),
     }
 }
 
-fn text_or_refusal(alloc: Global, page: &Page, radius: u32) -> Result<Name, Refusal>
+fn text_or_error(alloc: Global, page: &Page, radius: u32) -> Result<Name, CommonError>
     requires { radius ≤ most_radius }
     ensures valid { IsPage page.now }
-    ensures text { let told = text_of radius page.now in
-        MatchResult result (λ text. text ≡ told) (λ refusal. refusal ≡ Refusal.Memory) }
+    ensures text { let reported = text_of radius page.now in
+        MatchResult result (λ text. text ≡ reported) (λ error. error ≡ CommonError.Memory) }
 {
     match page_text(alloc, page, radius) {
         Ok(text) => Ok(text),
-        Err(OutOfMemory) => Err(Refusal::Memory),
+        Err(OutOfMemory) => Err(CommonError::Memory),
     }
 }

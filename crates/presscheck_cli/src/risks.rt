@@ -10,8 +10,8 @@ use misregister::sheet::Sheet;
 use misregister::{RiskBuf, risk_count};
 use page_model::page::Page;
 use page_model::parts::{Name, OutOfMemory, PlaneList};
-use page_model::steps::Steps;
 use page_model::shape_laws::page_planes_law;
+use page_model::steps::Steps;
 use std::alloc::Global;
 use std::marker::Brand;
 use std::sync::ledger::{Blank, Ledger};
@@ -55,8 +55,16 @@ fn risk_by<L: Ledger>(
     let first = &planes.as_slice()[0];
     let (width, height) = (first.width, first.height);
     let plates = planes.len() as u32;
-    let mut room = RiskBuf::new(alloc, width, height)?;
+    let mut workspace = RiskBuf::new(alloc, width, height)?;
     let mut steps = Steps::<L>::new(blank);
     let sheet = Sheet::new(planes);
-    Ok(risk_count(&sheet, width, height, plates, radius, &mut room, &mut steps))
+    Ok(risk_count(
+        &sheet,
+        width,
+        height,
+        plates,
+        radius,
+        &mut workspace,
+        &mut steps,
+    ))
 }

@@ -1,6 +1,6 @@
 ghost use Rattle.std.specs.Prelude.{◌≡◌, ◌++◌, IfOk, OnOk, decimal};
 ghost use Rattle.presscheck_cli.specs.Text.{check_text as text_spec};
-ghost use Rattle.refusals.specs.Lines.{line};
+ghost use Rattle.common_errors.specs.Lines.{line};
 
 use lists::list::List;
 use lists::names::{Name, OutOfMemory};

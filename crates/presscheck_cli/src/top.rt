@@ -2,16 +2,16 @@ ghost use Rattle.std.specs.Prelude.{◌≡◌, map, string_bytes};
 ghost use Rattle.presscheck_cli.specs.Clauses.{Success, Usage, RefusedInput, ReadFault, TellFault, FaultLine, Completeness};
 ghost use Rattle.presscheck_cli.specs.Endings.{Ends, RefusesWords};
 ghost use Rattle.presscheck_cli.specs.Text.{usage_line as usage_spec};
-ghost use Rattle.refusals.specs.Telling.{KeepsFiles};
+ghost use Rattle.common_errors.specs.Telling.{KeepsFiles};
 
 use crate::check::run_check;
 use crate::words::read_words;
+use common_errors::line::Line;
+use common_errors::statuses::USAGE;
+use common_errors::telling::tell_line;
 use outside::rack::Rack;
 use outside::tray::Tray;
 use pgm_plates::laws::{not_both, one_fault, one_plate};
-use refusals::line::Line;
-use refusals::statuses::USAGE;
-use refusals::telling::tell_line;
 use std::alloc::Global;
 
 /// Prints how many samples of a page misregister could leave bare, before it is trapped and after, and returns the
@@ -23,7 +23,7 @@ use std::alloc::Global;
 ///
 /// The status is 0 if the text is printed; 2 if the words are no command; 3 if the job has a fault or lacks the details
 /// of a plate's colorant; 4 if a plate's file has a fault, or the plates do not make a page; 5 if a read failed; 6 if
-/// the text could not be printed; and 7 if memory ran out. Each refusal prints one line that names the cause.
+/// the text could not be printed; and 7 if memory ran out. Each error prints one line that names the cause.
 pub fn presscheck_main<T: Tray, R: Rack>(
     alloc: Global,
     words: &[String],

@@ -1,7 +1,7 @@
 ghost use Rattle.std.specs.Prelude.{◌≡◌, ◌≤◌, IfSome, map, option_map, string_bytes};
 ghost use Rattle.std.specs.Option.{ForSome};
 ghost use Rattle.plain_words.specs.Inputs.{named_plates};
-ghost use Rattle.presscheck_cli.specs.Held.{check_in, IsWithin};
+ghost use Rattle.presscheck_cli.specs.Stored.{check_in, IsWithin};
 ghost use Rattle.presscheck_cli.specs.Words.{check_of, check_with as check_spec};
 ghost use Rattle.misregister.specs.Limits.{most_radius};
 

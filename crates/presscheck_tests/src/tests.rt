@@ -77,7 +77,7 @@ fn end_of_call(
     text: &str,
 ) -> (u8, bool) {
     let status = presscheck_main(alloc, words, tray, rack);
-    (status, rack.told() == text.as_bytes() && is_empty(rack))
+    (status, rack.reported() == text.as_bytes() && is_empty(rack))
 }
 
 fn end_on_rack(

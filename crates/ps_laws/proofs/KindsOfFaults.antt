@@ -163,15 +163,15 @@ no-array Item outer never = absurd (never refl)
 no-array Key outer never = refl
 no-array Value outer never = refl
 
-unmatched-told : {kind : TokenKind} {brackets : List Bracket} → Mismatches kind brackets → (at : ℕ) (value : Bool) → after_kind kind at value brackets ≡ Err Unmatched
+unmatched-reported : {kind : TokenKind} {brackets : List Bracket} → Mismatches kind brackets → (at : ℕ) (value : Bool) → after_kind kind at value brackets ≡ Err Unmatched
 unfolding after_array_end after_dict_end
-unmatched-told (closes_nothing kind is) at value = closing-none kind at value is
-unmatched-told (closes_dict innermost outer never) at value = no-array innermost.expects outer never
-unmatched-told (closes_array innermost outer is) at value = ap (λ e. dict_end e outer) is
+unmatched-reported (closes_nothing kind is) at value = closing-none kind at value is
+unmatched-reported (closes_dict innermost outer never) at value = no-array innermost.expects outer never
+unmatched-reported (closes_array innermost outer is) at value = ap (λ e. dict_end e outer) is
 
-odd-told : {kind : TokenKind} {brackets : List Bracket} → LacksValue kind brackets → (at : ℕ) (value : Bool) → after_kind kind at value brackets ≡ Err OddDictionary
+odd-reported : {kind : TokenKind} {brackets : List Bracket} → LacksValue kind brackets → (at : ℕ) (value : Bool) → after_kind kind at value brackets ≡ Err OddDictionary
 unfolding after_dict_end
-odd-told (no_value innermost outer is) at value = ap (λ e. dict_end e outer) is
+odd-reported (no_value innermost outer is) at value = ap (λ e. dict_end e outer) is
 
 opening-due : (at : ℕ) (expects : Expects) (brackets : List Bracket) → is_key_due brackets ≡ true → after_opening at expects brackets ≡ Err KeyNotName
 unfolding after_opening
@@ -189,15 +189,15 @@ word-due : (at : ℕ) (value : Bool) (brackets : List Bracket) → is_key_due br
 word-due at true brackets due = value-due brackets due
 word-due at false brackets due = operator-due brackets due
 
-no_key-told : (kind : TokenKind) (at : ℕ) (value : Bool) (brackets : List Bracket) → IsNoKey kind brackets → after_kind kind at value brackets ≡ Err KeyNotName
-no_key-told kinds.OpenDict at value brackets never = opening-due at Key brackets never.due
-no_key-told kinds.CloseDict at value brackets never = absurd (false≢true (sym never.no_end))
-no_key-told kinds.OpenArray at value brackets never = opening-due at Item brackets never.due
-no_key-told kinds.CloseArray at value brackets never = absurd (false≢true (sym never.no_end))
-no_key-told kinds.Literal at value brackets never = absurd (never.no_literal refl)
-no_key-told kinds.Word at value brackets never = word-due at value brackets never.due
-no_key-told (kinds.Number n) at value brackets never = value-due brackets never.due
-no_key-told kinds.Text at value brackets never = value-due brackets never.due
+no_key-reported : (kind : TokenKind) (at : ℕ) (value : Bool) (brackets : List Bracket) → IsNoKey kind brackets → after_kind kind at value brackets ≡ Err KeyNotName
+no_key-reported kinds.OpenDict at value brackets never = opening-due at Key brackets never.due
+no_key-reported kinds.CloseDict at value brackets never = absurd (false≢true (sym never.no_end))
+no_key-reported kinds.OpenArray at value brackets never = opening-due at Item brackets never.due
+no_key-reported kinds.CloseArray at value brackets never = absurd (false≢true (sym never.no_end))
+no_key-reported kinds.Literal at value brackets never = absurd (never.no_literal refl)
+no_key-reported kinds.Word at value brackets never = word-due at value brackets never.due
+no_key-reported (kinds.Number n) at value brackets never = value-due brackets never.due
+no_key-reported kinds.Text at value brackets never = value-due brackets never.due
 
 -- a key that is not due
 due-free : (kind : TokenKind) (brackets : List Bracket) → IsOther kind → (IsNoKey kind brackets → ⊥) → is_key_due brackets ≡ false
@@ -207,8 +207,8 @@ operator-inside : (brackets : List Bracket) → is_key_due brackets ≡ false �
 unfolding after_operator
 operator-inside brackets free within = rw (free, ne_eqb (length brackets) 0 (λ e. omega arith)) refl
 
-inside-told : (kind : TokenKind) (at : ℕ) (text : List ℕ) (brackets : List Bracket) → (IsNoKey kind brackets → ⊥) → IsInside kind text brackets → after_kind kind at (is_value_word text) brackets ≡ Err NameInside
-inside-told kind at text brackets never i =
+inside-reported : (kind : TokenKind) (at : ℕ) (text : List ℕ) (brackets : List Bracket) → (IsNoKey kind brackets → ⊥) → IsInside kind text brackets → after_kind kind at (is_value_word text) brackets ≡ Err NameInside
+inside-reported kind at text brackets never i =
     let other : IsOther kind = subst IsOther (sym i.word) (record { no_end = refl; no_literal = λ e. cc }) in
     let plain : is_value_word text ≡ false = false_from_ne_true (is_value_word text) (λ t. i.no_value (is_value-word text t)) in
     ap (λ k. after_kind k at (is_value_word text) brackets) i.word ∙ ap (λ v. after_kind kinds.Word at v brackets) plain ∙ operator-inside brackets (due-free kind brackets other never) i.within
@@ -217,22 +217,22 @@ opening-deep : (at : ℕ) (expects : Expects) (brackets : List Bracket) → is_k
 unfolding after_opening
 opening-deep at expects brackets free deep = rw (free, eq-eqb (length brackets) 16 deep) refl
 
-deep-told : (kind : TokenKind) (at : ℕ) (value : Bool) (brackets : List Bracket) → (IsNoKey kind brackets → ⊥) → IsTooDeep kind brackets → after_kind kind at value brackets ≡ Err TooDeep
-deep-told kinds.OpenDict at value brackets never d = opening-deep at Key brackets (due-free kinds.OpenDict brackets (record { no_end = refl; no_literal = λ e. cc }) never) d.deep
-deep-told kinds.CloseDict at value brackets never d = absurd (false≢true d.opens)
-deep-told kinds.OpenArray at value brackets never d = opening-deep at Item brackets (due-free kinds.OpenArray brackets (record { no_end = refl; no_literal = λ e. cc }) never) d.deep
-deep-told kinds.CloseArray at value brackets never d = absurd (false≢true d.opens)
-deep-told kinds.Literal at value brackets never d = absurd (false≢true d.opens)
-deep-told kinds.Word at value brackets never d = absurd (false≢true d.opens)
-deep-told (kinds.Number n) at value brackets never d = absurd (false≢true d.opens)
-deep-told kinds.Text at value brackets never d = absurd (false≢true d.opens)
+deep-reported : (kind : TokenKind) (at : ℕ) (value : Bool) (brackets : List Bracket) → (IsNoKey kind brackets → ⊥) → IsTooDeep kind brackets → after_kind kind at value brackets ≡ Err TooDeep
+deep-reported kinds.OpenDict at value brackets never d = opening-deep at Key brackets (due-free kinds.OpenDict brackets (record { no_end = refl; no_literal = λ e. cc }) never) d.deep
+deep-reported kinds.CloseDict at value brackets never d = absurd (false≢true d.opens)
+deep-reported kinds.OpenArray at value brackets never d = opening-deep at Item brackets (due-free kinds.OpenArray brackets (record { no_end = refl; no_literal = λ e. cc }) never) d.deep
+deep-reported kinds.CloseArray at value brackets never d = absurd (false≢true d.opens)
+deep-reported kinds.Literal at value brackets never d = absurd (false≢true d.opens)
+deep-reported kinds.Word at value brackets never d = absurd (false≢true d.opens)
+deep-reported (kinds.Number n) at value brackets never d = absurd (false≢true d.opens)
+deep-reported kinds.Text at value brackets never d = absurd (false≢true d.opens)
 
 had : {kind : TokenKind} {text : List ℕ} {brackets : List Bracket} {k : FaultKind} → HasFault kind text brackets k → (at : ℕ) → after_kind kind at (is_value_word text) brackets ≡ Err k
-had {kind} {text} {brackets} (is_unmatched m) at = unmatched-told m at (is_value_word text)
-had {kind} {text} {brackets} (is_odd no_m l) at = odd-told l at (is_value_word text)
-had {kind} {text} {brackets} (is_no_key no_m no_l n) at = no_key-told kind at (is_value_word text) brackets n
-had {kind} {text} {brackets} (is_inside no_m no_l no_n i) at = inside-told kind at text brackets no_n i
-had {kind} {text} {brackets} (is_too_deep no_m no_l no_n no_i d) at = deep-told kind at (is_value_word text) brackets no_n d
+had {kind} {text} {brackets} (is_unmatched m) at = unmatched-reported m at (is_value_word text)
+had {kind} {text} {brackets} (is_odd no_m l) at = odd-reported l at (is_value_word text)
+had {kind} {text} {brackets} (is_no_key no_m no_l n) at = no_key-reported kind at (is_value_word text) brackets n
+had {kind} {text} {brackets} (is_inside no_m no_l no_n i) at = inside-reported kind at text brackets no_n i
+had {kind} {text} {brackets} (is_too_deep no_m no_l no_n no_i d) at = deep-reported kind at (is_value_word text) brackets no_n d
 
 pub had-fault : (kind : TokenKind) (at : ℕ) (text : List ℕ) (brackets : List Bracket) (k : FaultKind) → HasFault kind text brackets k → after_kind kind at (is_value_word text) brackets ≡ Err k
 had-fault kind at text brackets k fault = had fault at

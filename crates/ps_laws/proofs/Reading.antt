@@ -177,9 +177,9 @@ record IsFault (kind : FaultKind) (rest : List ℕ) : Type 0 where
   kinded : IsKindOf kind rest
 
 -- at the end of the job or at a fault, where this is left
-abbrev IsStop : Result (List Token) JobFault → ℕ → List ℕ → Type 0
-IsStop (Ok tokens) end rest = IsEnd rest
-IsStop (Err fault) end rest = (end ≡ fault.at) × IsFault fault.kind rest
+abbrev IsError : Result (List Token) JobFault → ℕ → List ℕ → Type 0
+IsError (Ok tokens) end rest = IsEnd rest
+IsError (Err fault) end rest = (end ≡ fault.at) × IsFault fault.kind rest
 
 -- the tokens that are read, where no fault is
 abbrev Ends : Result (List Token) JobFault → List Token → Type 0
@@ -193,7 +193,7 @@ record Meant (at : ℕ) (bytes : List ℕ) (result : Result (List Token) JobFaul
   rest : List ℕ
   spelled : SpellsUntil at bytes tokens end rest
   are : Ends result tokens
-  stops : IsStop result end rest
+  stops : IsError result end rest
 
 -- after a gap
 spells-gap : (at : ℕ) (gap after : List ℕ) (tokens : List Token) (end : ℕ) (rest : List ℕ) → IsGap gap → SpellsUntil (at + length gap) after tokens end rest
@@ -237,7 +237,7 @@ ends-token : (token : Token) (result : Result (List Token) JobFault) (tokens : L
 ends-token token (Ok found) tokens are = ap (λ ts. token ∷ ts) are
 ends-token token (Err fault) tokens are = tt
 
-stops-token : (token : Token) (result : Result (List Token) JobFault) (end : ℕ) (rest : List ℕ) → IsStop result end rest → IsStop (tokens_then (Ok (token ∷ [])) result) end rest
+stops-token : (token : Token) (result : Result (List Token) JobFault) (end : ℕ) (rest : List ℕ) → IsError result end rest → IsError (tokens_then (Ok (token ∷ [])) result) end rest
 stops-token token (Ok found) end rest stops = stops
 stops-token token (Err fault) end rest stops = stops
 

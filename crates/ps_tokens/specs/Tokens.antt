@@ -1,8 +1,8 @@
 -- What tokens the bytes of a job spell, or the first fault.
 use Rattle.std.specs.Prelude.{◌≡◌, ℕ, zero, suc, List, [], ◌∷◌, ◌++◌, Result, Ok, Err, ◌+◌, ◌-◌}
 use Rattle.ps_tokens.specs.declared.faults.JobFault.{JobFault}
-use Rattle.ps_tokens.specs.declared.faults.JobRefusal.{JobRefusal}
-use Rattle.ps_tokens.specs.declared.faults.JobRefusal.TheVariants as refusals
+use Rattle.ps_tokens.specs.declared.faults.JobError.{JobError}
+use Rattle.ps_tokens.specs.declared.faults.JobError.TheVariants as errors
 use Rattle.ps_tokens.specs.declared.token.Token.{Token}
 use Rattle.ps_tokens.specs.declared.pieces.Piece.{Piece}
 use Rattle.ps_tokens.specs.declared.pieces.Piece.TheVariants.{Blank, Spelled, Broken}
@@ -39,12 +39,12 @@ tokens_from at zero (b ∷ bs) = tokens_then (piece_tokens at (piece_at b bs))
 abbrev pub tokens_of : List ℕ → Result (List Token) JobFault
 tokens_of bytes = tokens_from 0 0 bytes
 
--- A refusal is the fault that a definition gives, or out of memory.
-abbrev pub Fails : {X : Type 0} → JobRefusal → Result X JobFault → Type 0
-Fails refusals.OutOfMemory meant = Unit {0}
-Fails (refusals.Fault fault) meant = meant ≡ Err fault
+-- A error is the fault that a definition gives, or out of memory.
+abbrev pub Fails : {X : Type 0} → JobError → Result X JobFault → Type 0
+Fails errors.OutOfMemory meant = Unit {0}
+Fails (errors.Fault fault) meant = meant ≡ Err fault
 
 -- A call gives what a definition does, unless memory runs out.
-abbrev pub Gives : {X : Type 0} → Result X JobRefusal → Result X JobFault → Type 0
+abbrev pub Gives : {X : Type 0} → Result X JobError → Result X JobFault → Type 0
 Gives (Ok x) meant = meant ≡ Ok x
-Gives (Err refusal) meant = Fails refusal meant
+Gives (Err error) meant = Fails error meant

@@ -66,7 +66,7 @@ pub struct JobFault {
 
 /// Why a job was not read.
 #[derive(Clone, Copy, Debug, Drop, PartialEq, Eq)]
-pub enum JobRefusal {
+pub enum JobError {
     Fault(JobFault),
     OutOfMemory,
 }

@@ -5,7 +5,7 @@ ghost use Rattle.ps_tokens.specs.Dictionaries.{AreObjects};
 ghost use Rattle.ps_tokens.specs.Objects.{AreEnds, is_opening, is_closing, body_as, word_body, objects_in, objects_of};
 ghost use Rattle.ps_tokens.specs.Limits.{longest_job};
 
-use crate::faults::JobRefusal;
+use crate::faults::JobError;
 use crate::judging::judge;
 use crate::object::{Body, Object, ObjectList};
 use crate::token::{Token, TokenKind, TokenList};
@@ -20,7 +20,7 @@ use std::alloc::Global;
 /// The fault is at the first token that no further tokens could mend: `Unmatched`, `OddDictionary`, `KeyNotName`,
 /// `NameInside` and `TooDeep` at that token, in this order; `Unclosed` at the innermost bracket that is left open.
 /// The tokens are those that `tokens` gives for the bytes.
-pub fn objects(alloc: Global, bytes: &[u8], tokens: &TokenList) -> Result<ObjectList, JobRefusal>
+pub fn objects(alloc: Global, bytes: &[u8], tokens: &TokenList) -> Result<ObjectList, JobError>
     requires size { length bytes.now ≤ longest_job }
     requires of_bytes { tokens_of bytes.now ≡ Ok tokens.now }
     ensures given { Gives result (objects_of bytes.now tokens.now) }
@@ -30,9 +30,9 @@ pub fn objects(alloc: Global, bytes: &[u8], tokens: &TokenList) -> Result<Object
     match judge(bytes, tokens) {
         Ok(()) => match objects_in(alloc, bytes, tokens) {
             Ok(objects) => Ok(List::from_vec(objects)),
-            Err(OutOfMemory) => Err(JobRefusal::OutOfMemory),
+            Err(OutOfMemory) => Err(JobError::OutOfMemory),
         },
-        Err(fault) => Err(JobRefusal::Fault(fault)),
+        Err(fault) => Err(JobError::Fault(fault)),
     }
 }
 

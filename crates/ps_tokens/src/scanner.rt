@@ -2,7 +2,7 @@ ghost use Rattle.std.specs.Prelude.{◌≡◌, ◌≤◌, ◌<◌, ◌+◌, leng
 ghost use Rattle.ps_tokens.specs.Tokens.{Gives, Fails, tokens_then, tokens_from, tokens_of};
 ghost use Rattle.ps_tokens.specs.Limits.{longest_job};
 
-use crate::faults::{JobFault, JobRefusal};
+use crate::faults::{JobError, JobFault};
 use crate::pieces::{Piece, piece_at};
 use crate::token::{Token, TokenList};
 use lists::list::List;
@@ -16,7 +16,7 @@ pub const LONGEST_JOB: usize = 1_048_576;
 ///
 /// The fault is the first from the left: `BadToken` at the first byte where no token stands, or `NumberTooLarge`. A job
 /// has at most `LONGEST_JOB` bytes.
-pub fn tokens(alloc: Global, bytes: &[u8]) -> Result<TokenList, JobRefusal>
+pub fn tokens(alloc: Global, bytes: &[u8]) -> Result<TokenList, JobError>
     requires { length bytes.now ≤ longest_job }
     ensures { Gives result (tokens_of bytes.now) }
 {
@@ -29,21 +29,21 @@ pub fn tokens(alloc: Global, bytes: &[u8]) -> Result<TokenList, JobRefusal>
                 rest = &rest[len..];
                 at += len as u32;
             }
-            Err(refusal) => return Err(refusal),
+            Err(error) => return Err(error),
         }
     }
     Ok(List::from_vec(found))
 }
 
 // Adds the token that stands at the beginning of the rest, if it is one, and returns how many bytes were taken.
-fn take_piece(found: &mut Vec<Token>, rest: &[u8], at: u32) -> Result<usize, JobRefusal>
+fn take_piece(found: &mut Vec<Token>, rest: &[u8], at: u32) -> Result<usize, JobError>
     requires some { 0 < length rest.now }
     requires size { at + length rest.now ≤ longest_job }
     ensures within { IfOk result (λ len. (1 ≤ len) × (len ≤ length rest.now)) }
     ensures taken { IfOk result (λ len. tokens_then (Ok found.old.items) (tokens_from at 0 rest.now)
         ≡ tokens_then (Ok found.new.items) (tokens_from (at + len) 0 (drop len rest.now))) }
     ensures refused { let meant = tokens_then (Ok found.old.items) (tokens_from at 0 rest.now) in
-        IfErr result (λ refusal. Fails refusal meant) }
+        IfErr result (λ error. Fails error meant) }
 {
     match piece_at(rest) {
         Piece::Blank(len) => Ok(len),
@@ -55,9 +55,9 @@ fn take_piece(found: &mut Vec<Token>, rest: &[u8], at: u32) -> Result<usize, Job
             };
             match found.push(token) {
                 Ok(()) => Ok(len),
-                Err(_) => Err(JobRefusal::OutOfMemory),
+                Err(_) => Err(JobError::OutOfMemory),
             }
         }
-        Piece::Broken(kind) => Err(JobRefusal::Fault(JobFault { kind, at })),
+        Piece::Broken(kind) => Err(JobError::Fault(JobFault { kind, at })),
     }
 }

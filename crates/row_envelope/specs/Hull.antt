@@ -5,30 +5,30 @@ use Rattle.lists.specs.Words.{IsFirstLeast}
 use Rattle.row_envelope.specs.Envelope.{arm_d2, every}
 
 -- of the doubled coordinates up to last the left arm holds exactly those below the stop
-pub record IsStop (a b : ArmModel) (last stop : ℕ) : Type 0 where
-  pub within : stop ≤ last + 1
-  pub splits : (x2 : ℕ) → x2 ≤ last → LeftHolds a b x2 ↔ (x2 < stop)
+pub record IsError (a b : ArmModel) (last error : ℕ) : Type 0 where
+  pub within : error ≤ last + 1
+  pub splits : (x2 : ℕ) → x2 ≤ last → LeftHolds a b x2 ↔ (x2 < error)
 
 -- arm k is the nearest of the first n at x2
 abbrev pub Wins : List ArmModel → ℕ → ℕ → ℕ → Type 0
 Wins arms n x2 k = IsFirstLeast (arm_d2 arms x2) every n k
 
 -- the hull's entry k has the coordinates from its own start to the next one's
-pub record InEntry (starts : List ℕ) (held last k x2 : ℕ) : Type 0 where
+pub record InEntry (starts : List ℕ) (stored last k x2 : ℕ) : Type 0 where
   pub at_start : slice_index starts k ≤ x2
-  pub before_next : k + 1 < held → x2 < slice_index starts (k + 1)
+  pub before_next : k + 1 < stored → x2 < slice_index starts (k + 1)
   pub fits : x2 ≤ last
 
 -- the hull of the first n arms
 pub record IsHull (arms : List ArmModel) (n last : ℕ) (places starts : List ℕ)
-    (held : ℕ) : Type 0 where
-  pub few : held ≤ n
-  pub some : 0 < n → 0 < held
-  pub below : (k : ℕ) → k < held → slice_index places k < n
-  pub begin : 0 < held → slice_index starts 0 ≡ 0
-  pub ordered : (j k : ℕ) → j ≤ k → k < held → slice_index starts j ≤ slice_index starts k
-  pub fits : (k : ℕ) → k < held → slice_index starts k ≤ last + 1
-  pub wins : (k x2 : ℕ) → k < held → InEntry starts held last k x2
+    (stored : ℕ) : Type 0 where
+  pub few : stored ≤ n
+  pub some : 0 < n → 0 < stored
+  pub below : (k : ℕ) → k < stored → slice_index places k < n
+  pub begin : 0 < stored → slice_index starts 0 ≡ 0
+  pub ordered : (j k : ℕ) → j ≤ k → k < stored → slice_index starts j ≤ slice_index starts k
+  pub fits : (k : ℕ) → k < stored → slice_index starts k ≤ last + 1
+  pub wins : (k x2 : ℕ) → k < stored → InEntry starts stored last k x2
       → Wins arms n x2 (slice_index places k)
 
 -- after the entries from `left` on were dropped, the new arm i begins at `from`

@@ -1,3 +1,3 @@
 pub mod Envelope
 pub mod Hull
-pub mod Room
+pub mod Workspace

@@ -3,7 +3,7 @@
 
 ghost use Rattle.std.specs.Prelude.{◌≡◌, ◌≤◌, ◌<◌, ◌+◌, ◌*◌, ◌-◌, length, vec_len, IfOk};
 ghost use Rattle.row_envelope.specs.Envelope.{Rising};
-ghost use Rattle.row_envelope.specs.Hull.{IsStop, IsHull, IsSettled};
+ghost use Rattle.row_envelope.specs.Hull.{IsError, IsHull, IsSettled};
 ghost use Rattle.page_model.specs.Limits.{most_column, most_side};
 
 use lists::memory::vec_of;
@@ -24,9 +24,9 @@ pub struct HullBuf {
 
 impl Model for HullBuf {
     ghost use Rattle.std.specs.Prelude.{◌≡◌, vec_capacity, vec_len};
-    ghost use Rattle.row_envelope.specs.Room.{Room};
+    ghost use Rattle.row_envelope.specs.Workspace.{Workspace};
 
-    ghost Value = { Room };
+    ghost Value = { Workspace };
 
     ghost view = { λ h. record {
       columns = vec_len h.places;
@@ -54,10 +54,10 @@ impl HullBuf {
 
 /// The doubled coordinate, up to `last`, from which on the right arm is nearer than the left one: the number of
 /// coordinates at which the left arm is at least as near.
-fn stop<L: Ledger>(left: &Arm, right: &Arm, last: u32, steps: &mut Steps<L>) -> u32
+fn error<L: Ledger>(left: &Arm, right: &Arm, last: u32, steps: &mut Steps<L>) -> u32
     requires order { left.now.column < right.now.column }
     requires last { last ≤ most_column }
-    ensures stop { IsStop left.now right.now last result }
+    ensures error { IsError left.now right.now last result }
     ensures step { steps.new ≡ steps.old + 1 }
 {
     (left.until(right, last, steps) + 1) as u32
@@ -77,23 +77,23 @@ fn settle<L: Ledger>(
     last: u32,
     places: &[u32],
     starts: &[u32],
-    held: usize,
+    stored: usize,
     steps: &mut Steps<L>,
 ) -> Joint
     requires order { Rising arms.now }
     requires i { i < length arms.now }
     requires last { last ≤ most_column }
-    requires places { held ≤ length places.now }
-    requires starts { held ≤ length starts.now }
-    requires hull { IsHull arms.now i last places.now starts.now held }
-    ensures fewer { result.left ≤ held }
+    requires places { stored ≤ length places.now }
+    requires starts { stored ≤ length starts.now }
+    requires hull { IsHull arms.now i last places.now starts.now stored }
+    ensures fewer { result.left ≤ stored }
     ensures settled { IsSettled arms.now i last places.now starts.now result.left result.from }
-    ensures cost { steps.new + result.left ≤ steps.old + held + 1 }
+    ensures cost { steps.new + result.left ≤ steps.old + stored + 1 }
 {
-    let mut left = held;
+    let mut left = stored;
     while left > 0 {
         let top = &arms[places[left - 1] as usize];
-        let from = stop(top, &arms[i], last, steps);
+        let from = error(top, &arms[i], last, steps);
         if from > starts[left - 1] {
             return Joint { left, from };
         }
@@ -120,12 +120,12 @@ pub(crate) fn build_hull<L: Ledger>(
     ensures hull { IsHull arms.now (length arms.now) last places.new starts.new result }
     ensures cost { steps.new + result ≤ steps.old + 2 * length arms.now }
 {
-    let mut held = 0;
+    let mut stored = 0;
     for i in 0..arms.len() {
-        let joint = settle(arms, i, last, places, starts, held, steps);
+        let joint = settle(arms, i, last, places, starts, stored, steps);
         places[joint.left] = i as u32;
         starts[joint.left] = joint.from;
-        held = joint.left + 1;
+        stored = joint.left + 1;
     }
-    held
+    stored
 }

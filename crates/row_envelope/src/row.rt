@@ -23,16 +23,16 @@ fn give(out: &mut [Option<u32>], x: usize, end: usize, place: u32)
 }
 
 /// The end of the samples that entry k of the hull has; x is one of them.
-fn end_of(starts: &[u32], held: usize, k: usize, x: usize, width: usize) -> usize
-    requires starts { held ≤ length starts.now }
-    requires k { k < held }
+fn end_of(starts: &[u32], stored: usize, k: usize, x: usize, width: usize) -> usize
+    requires starts { stored ≤ length starts.now }
+    requires k { k < stored }
     requires x { x < width }
-    requires begun { k + 1 < held → 2 * x < slice_index starts.now (k + 1) }
+    requires begun { k + 1 < stored → 2 * x < slice_index starts.now (k + 1) }
     ensures some { x < result }
     ensures inside { result ≤ width }
-    ensures within { (j : ℕ) → j < result → k + 1 < held → 2 * j < slice_index starts.now (k + 1) }
+    ensures within { (j : ℕ) → j < result → k + 1 < stored → 2 * j < slice_index starts.now (k + 1) }
 {
-    if k + 1 < held {
+    if k + 1 < stored {
         (starts[k + 1] as usize).div_ceil(2).min(width)
     } else {
         width
@@ -43,17 +43,17 @@ fn end_of(starts: &[u32], held: usize, k: usize, x: usize, width: usize) -> usiz
 fn spread(
     places: &[u32],
     starts: &[u32],
-    held: usize,
+    stored: usize,
     out: &mut [Option<u32>],
     arms: &[Arm],
     last: u32,
 )
-    requires some { 0 < held }
-    requires places { held ≤ length places.now }
-    requires starts { held ≤ length starts.now }
+    requires some { 0 < stored }
+    requires places { stored ≤ length places.now }
+    requires starts { stored ≤ length starts.now }
     requires narrow { length out.old ≤ most_side }
     requires last { last + 2 ≡ 2 * length out.old }
-    requires hull { IsHull arms.now (length arms.now) last places.now starts.now held }
+    requires hull { IsHull arms.now (length arms.now) last places.now starts.now stored }
     ensures len { length out.new ≡ length out.old }
     ensures nearest { (x : ℕ) → x < length out.old
         → slice_index_or out.new x None ≡ nearest arms.now x }
@@ -61,10 +61,10 @@ fn spread(
     let mut k = 0;
     let mut x = 0;
     while x < out.len() {
-        while k + 1 < held && starts[k + 1] as usize <= 2 * x {
+        while k + 1 < stored && starts[k + 1] as usize <= 2 * x {
             k += 1;
         }
-        let end = end_of(starts, held, k, x, out.len());
+        let end = end_of(starts, stored, k, x, out.len());
         give(out, x, end, places[k]);
         x = end;
     }
@@ -106,6 +106,6 @@ pub fn nearest_row<L: Ledger>(
     }
     let places = hull.places.as_mut_slice();
     let starts = hull.starts.as_mut_slice();
-    let held = build_hull(arms, 2 * width - 2, places, starts, steps);
-    spread(places, starts, held, out, arms, 2 * width - 2);
+    let stored = build_hull(arms, 2 * width - 2, places, starts, steps);
+    spread(places, starts, stored, out, arms, 2 * width - 2);
 }

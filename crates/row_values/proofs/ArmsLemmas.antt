@@ -27,7 +27,7 @@ added_blank codes n count arms columns raised none h = record {
 }
 
 pub added : (codes : List ℕ) (n : ℕ) (arms : List ArmModel) (columns : List ℕ) (count : ℕ) (joining : ArmModel) → 1 ≤ slice_index codes n → joining ≡ arm_of n (slice_index codes n) → count < length arms → count < length columns → AreArms codes n arms columns count → AreArms codes (n + 1) (slice_set arms count joining) (slice_set columns count n) (count + 1)
-added codes n arms columns count joining some is room_a room_c h = record {
+added codes n arms columns count joining some is workspace_a workspace_c h = record {
   few = omega (arith, h.few);
   each = λ k l. elim (cases_eq k count) [
     | inl e ↦ record { column = rw (e, column_new) (omega arith); some = rw (e, column_new) some; arm = rw (e, arm_new, column_new) is }
@@ -43,13 +43,13 @@ added codes n arms columns count joining some is room_a room_c h = record {
   ];
 } where
   column_new : slice_index (slice_set columns count n) count ≡ n
-  column_new = get_or-set_same columns count n 0 room_c
+  column_new = get_or-set_same columns count n 0 workspace_c
 
   column_old : (k : ℕ) → (k ≡ count → ⊥) → slice_index (slice_set columns count n) k ≡ slice_index columns k
   column_old k ne = get_or-set_other columns count k n 0 ne
 
   arm_new : arm_at (slice_set arms count joining) count ≡ joining
-  arm_new = get_or-set_same arms count joining no_arm room_a
+  arm_new = get_or-set_same arms count joining no_arm workspace_a
 
   arm_old : (k : ℕ) → (k ≡ count → ⊥) → arm_at (slice_set arms count joining) k ≡ arm_at arms k
   arm_old k ne = get_or-set_other arms count k joining no_arm ne
@@ -102,28 +102,28 @@ answer_fits page reach y n codes few answers k l = elim (cases_lt 0 (slice_index
 
 -- the arms that are taken
 taken_at : (arms : List ArmModel) (count k : ℕ) (d : ArmModel) → count ≤ length arms → k < count → slice_index_or (take count arms) k d ≡ arm_at arms k
-taken_at arms count k d room l = get_or-take count arms k d l ∙ get_or_default arms k d no_arm (omega arith)
+taken_at arms count k d workspace l = get_or-take count arms k d l ∙ get_or_default arms k d no_arm (omega arith)
 
 column_at : (codes : List ℕ) (n : ℕ) (arms : List ArmModel) (columns : List ℕ) (count k : ℕ) (d : ArmModel) → count ≤ length arms → AreArms codes n arms columns count → k < count → (slice_index_or (take count arms) k d).column ≡ slice_index columns k
-column_at codes n arms columns count k d room h l = ap (λ (b : ArmModel). b.column) (taken_at arms count k d room l ∙ (h.each k l).arm)
+column_at codes n arms columns count k d workspace h l = ap (λ (b : ArmModel). b.column) (taken_at arms count k d workspace l ∙ (h.each k l).arm)
 
 pub taken_rising : (codes : List ℕ) (n : ℕ) (arms : List ArmModel) (columns : List ℕ) (count : ℕ) → count ≤ length arms → AreArms codes n arms columns count → Rising (take count arms)
-taken_rising codes n arms columns count room h = λ i j d less l.
-    let whole : length (take count arms) ≡ count = length-take-le count arms room in
+taken_rising codes n arms columns count workspace h = λ i j d less l.
+    let whole : length (take count arms) ≡ count = length-take-le count arms workspace in
     let lj : j < count = omega (arith, l, whole) in
     let li : i < count = omega (arith, lj, less) in
-    omega (arith, column_at codes n arms columns count i d room h li, column_at codes n arms columns count j d room h lj, h.rising i j less lj)
+    omega (arith, column_at codes n arms columns count i d workspace h li, column_at codes n arms columns count j d workspace h lj, h.rising i j less lj)
 
 pub taken_inside : (codes : List ℕ) (n : ℕ) (arms : List ArmModel) (columns : List ℕ) (count : ℕ) → count ≤ length arms → AreArms codes n arms columns count → (k : ℕ) → k < length (take count arms) → (arm_at (take count arms) k).column < n
-taken_inside codes n arms columns count room h k l =
-    let whole : length (take count arms) ≡ count = length-take-le count arms room in
+taken_inside codes n arms columns count workspace h k l =
+    let whole : length (take count arms) ≡ count = length-take-le count arms workspace in
     let lk : k < count = omega (arith, l, whole) in
-    omega (arith, column_at codes n arms columns count k no_arm room h lk, (h.each k lk).column)
+    omega (arith, column_at codes n arms columns count k no_arm workspace h lk, (h.each k lk).column)
 
 -- how far the arm at a place is, and how far its column's edge
 arm_far : (codes : List ℕ) (n : ℕ) (arms : List ArmModel) (columns : List ℕ) (count k x2 : ℕ) → count ≤ length arms → AreArms codes n arms columns count → k < count → arm_d2 (take count arms) x2 k ≡ square (gap (slice_index columns k) x2) + square (gap (slice_index codes (slice_index columns k)) 257)
 unfolding arm_d2
-arm_far codes n arms columns count k x2 room h l = ap (λ (b : ArmModel). d2_of_arm b x2) (taken_at arms count k no_arm room l ∙ (h.each k l).arm)
+arm_far codes n arms columns count k x2 workspace h l = ap (λ (b : ArmModel). d2_of_arm b x2) (taken_at arms count k no_arm workspace l ∙ (h.each k l).arm)
 
 edge_far : (page : PageParts) (reach y x2 code x : ℕ) → IsDecoded page reach y x2 code → d2 (record { x = x; y = y }) (answer_edge page reach y x2) ≡ square (gap x2 (2 * x)) + square (gap code 257)
 edge_far page reach y x2 code x is = ap (λ (g : ℕ). square (gap x2 (2 * x)) + square g) (sym is.off)
@@ -148,13 +148,13 @@ record IsRow (page : PageParts) (reach y n : ℕ) (codes : List ℕ) (arms : Lis
   few : reach ≤ 256
   answers : AreAnswers page reach y n codes
   stand : AreArms codes n arms columns count
-  room : count ≤ length arms
+  workspace : count ≤ length arms
 
 decode : (page : PageParts) (reach y n : ℕ) (codes : List ℕ) (arms : List ArmModel) (columns : List ℕ) (count k : ℕ) → IsRow page reach y n codes arms columns count → k < count → IsDecoded page reach y (slice_index columns k) (slice_index codes (slice_index columns k))
 decode page reach y n codes arms columns count k row l = (let e = row.stand.each k l in decoded page reach (slice_index columns k) y (slice_index codes (slice_index columns k)) row.few (row.answers.each (slice_index columns k) e.column) e.some)
 
 same_far : (page : PageParts) (reach x y n : ℕ) (codes : List ℕ) (arms : List ArmModel) (columns : List ℕ) (count k : ℕ) → IsRow page reach y n codes arms columns count → k < count → arm_d2 (take count arms) (2 * x) k ≡ far_of page reach x y (slice_index columns k)
-same_far page reach x y n codes arms columns count k row l = arm_far codes n arms columns count k (2 * x) row.room row.stand l ∙ sym (edge_far page reach y (slice_index columns k) (slice_index codes (slice_index columns k)) x (decode page reach y n codes arms columns count k row l))
+same_far page reach x y n codes arms columns count k row l = arm_far codes n arms columns count k (2 * x) row.workspace row.stand l ∙ sym (edge_far page reach y (slice_index columns k) (slice_index codes (slice_index columns k)) x (decode page reach y n codes arms columns count k row l))
 
 -- the nearest arm is that of the nearest answer
 best_column : (page : PageParts) (reach x y n : ℕ) (codes : List ℕ) (arms : List ArmModel) (columns : List ℕ) (count k : ℕ) → IsRow page reach y n codes arms columns count → IsFirstLeast (arm_d2 (take count arms) (2 * x)) every count k → IsFirstLeast (far_of page reach x y) (answered page reach y) n (slice_index columns k)
@@ -188,29 +188,29 @@ by_place page reach x y codes arms columns count (Some k) row best = ap Some (de
 
 pub row_decides : (page : PageParts) (reach x y : ℕ) (codes : List ℕ) (arms : List ArmModel) (columns : List ℕ) (count : ℕ) → reach ≤ 256 → AreAnswers page reach y (2 * width page - 1) codes → AreArms codes (2 * width page - 1) arms columns count → count ≤ length arms → edge_at_place codes y columns (nearest (take count arms) x) ≡ column_decider page reach (at x y)
 unfolding nearest
-row_decides page reach x y codes arms columns count few answers stand room =
-    let row : IsRow page reach y (2 * width page - 1) codes arms columns count = record { few = few; answers = answers; stand = stand; room = room } in
-    let whole : length (take count arms) ≡ count = length-take-le count arms room in
+row_decides page reach x y codes arms columns count few answers stand workspace =
+    let row : IsRow page reach y (2 * width page - 1) codes arms columns count = record { few = few; answers = answers; stand = stand; workspace = workspace } in
+    let whole : length (take count arms) ≡ count = length-take-le count arms workspace in
     rw whole (by_place page reach x y codes arms columns count _ row (first_least-is (arm_d2 (take count arms) (2 * x)) every count))
 
 -- what naming the edges asks of the places
 pub place_known : (page : PageParts) (reach x y : ℕ) (codes : List ℕ) (arms : List ArmModel) (columns : List ℕ) (count : ℕ) → reach ≤ 256 → AreAnswers page reach y (2 * width page - 1) codes → AreArms codes (2 * width page - 1) arms columns count → count ≤ length arms → count ≤ length columns → MatchOption (nearest (take count arms) x) (0 ≤ y) (λ k. (k < length columns) × (slice_index columns k < length codes) × (257 ≤ slice_index codes (slice_index columns k) + 2 * y))
 unfolding nearest
-place_known page reach x y codes arms columns count few answers stand room_a room_c =
-    let row : IsRow page reach y (2 * width page - 1) codes arms columns count = record { few = few; answers = answers; stand = stand; room = room_a } in
-    let whole : length (take count arms) ≡ count = length-take-le count arms room_a in
+place_known page reach x y codes arms columns count few answers stand workspace_a workspace_c =
+    let row : IsRow page reach y (2 * width page - 1) codes arms columns count = record { few = few; answers = answers; stand = stand; workspace = workspace_a } in
+    let whole : length (take count arms) ≡ count = length-take-le count arms workspace_a in
     rw whole (go _ row (first_least-is (arm_d2 (take count arms) (2 * x)) every count)) where
       go : (o : Option ℕ) → IsRow page reach y (2 * width page - 1) codes arms columns count → Answers (arm_d2 (take count arms) (2 * x)) every count o → MatchOption o (0 ≤ y) (λ k. (k < length columns) × (slice_index columns k < length codes) × (257 ≤ slice_index codes (slice_index columns k) + 2 * y))
       go None row none = omega arith
-      go (Some k) row best = (omega (arith, best.below, room_c), omega (arith, (stand.each k best.below).column, answers.len), (decode page reach y (2 * width page - 1) codes arms columns count k row best.below).back)
+      go (Some k) row best = (omega (arith, best.below, workspace_c), omega (arith, (stand.each k best.below).column, answers.len), (decode page reach y (2 * width page - 1) codes arms columns count k row best.below).back)
 
 -- the row in hand, with the width that the code has
 pub record IsReady (page : PageParts) (reach y : ℕ) (codes : List ℕ) (arms : List ArmModel) (columns : List ℕ) (count : ℕ) : Type 0 where
   pub few : reach ≤ 256
   pub answers : AreAnswers page reach y (2 * width page - 1) codes
   pub stand : AreArms codes (2 * width page - 1) arms columns count
-  pub room_a : count ≤ length arms
-  pub room_c : count ≤ length columns
+  pub workspace_a : count ≤ length arms
+  pub workspace_c : count ≤ length columns
 
 pub ready : (page : PageParts) (reach y w : ℕ) (codes : List ℕ) (arms : List ArmModel) (columns : List ℕ) (count : ℕ) → w ≡ width page → reach ≤ 256 → AreAnswers page reach y (2 * w - 1) codes → AreArms codes (length codes) arms columns count → length arms ≡ 2 * w - 1 → length columns ≡ 2 * w - 1 → IsReady page reach y codes arms columns count
 ready page reach y w codes arms columns count e few answers stand la lc =
@@ -219,18 +219,18 @@ ready page reach y w codes arms columns count e few answers stand la lc =
       few = few;
       answers = subst (λ (n : ℕ). AreAnswers page reach y n codes) width_is answers;
       stand = subst (λ (n : ℕ). AreArms codes n arms columns count) (answers.len ∙ width_is) stand;
-      room_a = omega (arith, stand.few, answers.len, la);
-      room_c = omega (arith, stand.few, answers.len, lc);
+      workspace_a = omega (arith, stand.few, answers.len, la);
+      workspace_c = omega (arith, stand.few, answers.len, lc);
     }
 
 pub ready_rising : (page : PageParts) (reach y : ℕ) (codes : List ℕ) (arms : List ArmModel) (columns : List ℕ) (count : ℕ) → IsReady page reach y codes arms columns count → Rising (take count arms)
-ready_rising page reach y codes arms columns count r = taken_rising codes (2 * width page - 1) arms columns count r.room_a r.stand
+ready_rising page reach y codes arms columns count r = taken_rising codes (2 * width page - 1) arms columns count r.workspace_a r.stand
 
 pub ready_inside : (page : PageParts) (reach y w : ℕ) (codes : List ℕ) (arms : List ArmModel) (columns : List ℕ) (count : ℕ) → w ≡ width page → 1 ≤ w → IsReady page reach y codes arms columns count → (k : ℕ) → k < length (take count arms) → (arm_at (take count arms) k).column + 2 ≤ 2 * w
-ready_inside page reach y w codes arms columns count e some r k l = omega (arith, e, taken_inside codes (2 * width page - 1) arms columns count r.room_a r.stand k l)
+ready_inside page reach y w codes arms columns count e some r k l = omega (arith, e, taken_inside codes (2 * width page - 1) arms columns count r.workspace_a r.stand k l)
 
 pub ready_known : (page : PageParts) (reach x y : ℕ) (codes : List ℕ) (arms : List ArmModel) (columns : List ℕ) (count : ℕ) (o : Option ℕ) → o ≡ nearest (take count arms) x → IsReady page reach y codes arms columns count → MatchOption o (0 ≤ y) (λ k. (k < length columns) × (slice_index columns k < length codes) × (257 ≤ slice_index codes (slice_index columns k) + 2 * y))
-ready_known page reach x y codes arms columns count o e r = rw e (place_known page reach x y codes arms columns count r.few r.answers r.stand r.room_a r.room_c)
+ready_known page reach x y codes arms columns count o e r = rw e (place_known page reach x y codes arms columns count r.few r.answers r.stand r.workspace_a r.workspace_c)
 
 pub ready_decides : (page : PageParts) (reach x y : ℕ) (codes : List ℕ) (arms : List ArmModel) (columns : List ℕ) (count : ℕ) (o : Option ℕ) → o ≡ nearest (take count arms) x → IsReady page reach y codes arms columns count → edge_at_place codes y columns o ≡ column_decider page reach (at x y)
-ready_decides page reach x y codes arms columns count o e r = rw e (row_decides page reach x y codes arms columns count r.few r.answers r.stand r.room_a)
+ready_decides page reach x y codes arms columns count o e r = rw e (row_decides page reach x y codes arms columns count r.few r.answers r.stand r.workspace_a)

@@ -23,10 +23,10 @@ pub record AreAnswers (page : PageParts) (reach y columns : ℕ) (codes : List �
   pub each : (x2 : ℕ) → x2 < columns → slice_index codes x2 ≡ column_answer page reach x2 y
 
 -- the column has a code, and its arm stands at a place
-pub record HasArm (codes : List ℕ) (n : ℕ) (held : ArmModel) (x2 : ℕ) : Type 0 where
+pub record HasArm (codes : List ℕ) (n : ℕ) (stored : ArmModel) (x2 : ℕ) : Type 0 where
   pub column : x2 < n
   pub some : 1 ≤ slice_index codes x2
-  pub arm : held ≡ arm_of x2 (slice_index codes x2)
+  pub arm : stored ≡ arm_of x2 (slice_index codes x2)
 
 pub record StandsAt (columns : List ℕ) (count x2 : ℕ) : Type 0 where
   pub place : ℕ

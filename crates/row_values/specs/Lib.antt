@@ -1,5 +1,5 @@
 pub mod Arms
 pub mod Nearest
 pub mod Rows
-pub mod Room
+pub mod Workspace
 pub mod Quiet

@@ -1,7 +1,7 @@
 ghost use Rattle.std.specs.Prelude.{◌≡◌, ◌<◌, ◌≤◌, ◌+◌, ◌*◌, ◌-◌, true, ℕ, length, slice_index};
 ghost use Rattle.row_values.specs.Rows.{HoldsAnswers, HoldsMarks, doubled};
 ghost use Rattle.page_model.specs.Columns.{AreMarks, halo};
-ghost use Rattle.page_model.specs.Marks.{held_rows};
+ghost use Rattle.page_model.specs.Marks.{stored_rows};
 ghost use Rattle.page_model.specs.Page.{height};
 ghost use Rattle.page_model.specs.Reach.{page_reach};
 
@@ -25,41 +25,41 @@ fn are_blank(marks: &[u8]) -> bool
 }
 
 /// The marks of some rows, as the column scan reads them.
-fn marks_of<'a>(page: &Page, held: Rows, marks: &'a [u8]) -> Marks<'a>
-    requires marks { HoldsMarks page.now held marks.now }
-    requires some { 1 ≤ held.count }
-    requires inside { held.first + held.count ≤ height page.now }
+fn marks_of<'a>(page: &Page, stored: Rows, marks: &'a [u8]) -> Marks<'a>
+    requires marks { HoldsMarks page.now stored marks.now }
+    requires some { 1 ≤ stored.count }
+    requires inside { stored.first + stored.count ≤ height page.now }
     ensures marks { AreMarks page.now result }
-    ensures top { result.top ≡ held.first }
-    ensures rows { held_rows result ≡ held.count }
+    ensures top { result.top ≡ stored.first }
+    ensures rows { stored_rows result ≡ stored.count }
 {
-    Marks::new(page.width(), held.first, marks)
+    Marks::new(page.width(), stored.first, marks)
 }
 
 fn scan<L: Ledger>(
     page: &Page,
     rows: Rows,
-    held: Rows,
+    stored: Rows,
     marks: &[u8],
     out: &mut [u16],
     steps: &mut Steps<L>,
 )
-    requires marks { HoldsMarks page.now held marks.now }
+    requires marks { HoldsMarks page.now stored marks.now }
     requires some { 1 ≤ rows.count }
     requires inside { rows.first + rows.count ≤ height page.now }
-    requires held { held.first + held.count ≤ height page.now }
-    requires above { held.first ≤ rows.first }
-    requires under { rows.first + rows.count ≤ held.first + held.count }
+    requires stored { stored.first + stored.count ≤ height page.now }
+    requires above { stored.first ≤ rows.first }
+    requires under { rows.first + rows.count ≤ stored.first + stored.count }
     requires far_above { (row : ℕ) → rows.first ≤ row + halo (page_reach page.now)
-        → held.first ≤ row }
+        → stored.first ≤ row }
     requires far_under { (row : ℕ) → row < height page.now
         → row < rows.first + rows.count + halo (page_reach page.now)
-        → row < held.first + held.count }
+        → row < stored.first + stored.count }
     requires out { length out.old ≡ rows.count * doubled page.now }
     ensures answers { HoldsAnswers page.now rows out.new }
     ensures len { length out.new ≡ length out.old }
 {
-    let marks = marks_of(page, held, marks);
+    let marks = marks_of(page, stored, marks);
     columns(
         &marks,
         page.width(),
@@ -75,7 +75,7 @@ fn scan<L: Ledger>(
 fn scan_with_counter<L: Ledger>(
     page: &Page,
     rows: Rows,
-    held: Rows,
+    stored: Rows,
     marks: &[u8],
     out: &mut [u16],
     blank: Blank,
@@ -83,23 +83,23 @@ fn scan_with_counter<L: Ledger>(
     requires name { blank.name ≡ L.name }
     requires parts { blank.parts ≡ L.parts }
     requires counting { 0 < L.parts }
-    requires marks { HoldsMarks page.now held marks.now }
+    requires marks { HoldsMarks page.now stored marks.now }
     requires some { 1 ≤ rows.count }
     requires inside { rows.first + rows.count ≤ height page.now }
-    requires held { held.first + held.count ≤ height page.now }
-    requires above { held.first ≤ rows.first }
-    requires under { rows.first + rows.count ≤ held.first + held.count }
+    requires stored { stored.first + stored.count ≤ height page.now }
+    requires above { stored.first ≤ rows.first }
+    requires under { rows.first + rows.count ≤ stored.first + stored.count }
     requires far_above { (row : ℕ) → rows.first ≤ row + halo (page_reach page.now)
-        → held.first ≤ row }
+        → stored.first ≤ row }
     requires far_under { (row : ℕ) → row < height page.now
         → row < rows.first + rows.count + halo (page_reach page.now)
-        → row < held.first + held.count }
+        → row < stored.first + stored.count }
     requires out { length out.old ≡ rows.count * doubled page.now }
     ensures answers { HoldsAnswers page.now rows out.new }
     ensures len { length out.new ≡ length out.old }
 {
     let mut steps = Steps::<L>::new(blank);
-    scan(page, rows, held, marks, out, &mut steps);
+    scan(page, rows, stored, marks, out, &mut steps);
 }
 
 /// Writes that no column has an answer.
@@ -111,20 +111,20 @@ fn clear(out: &mut [u16])
 }
 
 /// Writes the column answers of these rows, row by row from doubled column 0 on. `marks` are the marks of the rows
-/// `held`: these rows, and all rows of the page within its reach of them. Where no sample of `held` has a mark, no
+/// `stored`: these rows, and all rows of the page within its reach of them. Where no sample of `stored` has a mark, no
 /// column is scanned.
-pub fn make_answers(page: &Page, rows: Rows, held: Rows, marks: &[u8], out: &mut [u16])
-    requires marks { HoldsMarks page.now held marks.now }
+pub fn make_answers(page: &Page, rows: Rows, stored: Rows, marks: &[u8], out: &mut [u16])
+    requires marks { HoldsMarks page.now stored marks.now }
     requires some { 1 ≤ rows.count }
     requires inside { rows.first + rows.count ≤ height page.now }
-    requires held { held.first + held.count ≤ height page.now }
-    requires above { held.first ≤ rows.first }
-    requires under { rows.first + rows.count ≤ held.first + held.count }
+    requires stored { stored.first + stored.count ≤ height page.now }
+    requires above { stored.first ≤ rows.first }
+    requires under { rows.first + rows.count ≤ stored.first + stored.count }
     requires far_above { (row : ℕ) → rows.first ≤ row + halo (page_reach page.now)
-        → held.first ≤ row }
+        → stored.first ≤ row }
     requires far_under { (row : ℕ) → row < height page.now
         → row < rows.first + rows.count + halo (page_reach page.now)
-        → row < held.first + held.count }
+        → row < stored.first + stored.count }
     requires out { length out.old ≡ rows.count * doubled page.now }
     ensures answers { HoldsAnswers page.now rows out.new }
     ensures len { length out.new ≡ length out.old }
@@ -133,6 +133,6 @@ pub fn make_answers(page: &Page, rows: Rows, held: Rows, marks: &[u8], out: &mut
         clear(out);
     } else {
         let blank = Blank::new(1);
-        scan_with_counter::<Brand>(page, rows, held, marks, out, blank);
+        scan_with_counter::<Brand>(page, rows, stored, marks, out, blank);
     }
 }

@@ -5,7 +5,7 @@ ghost use Rattle.std.specs.Option.{ForSome};
 ghost use Rattle.row_values.specs.Arms.{AreAnswers};
 ghost use Rattle.row_values.specs.Nearest.{AreDeciders, AreKnown};
 ghost use Rattle.row_values.specs.Quiet.{IsRowTo, is_far_off};
-ghost use Rattle.row_values.specs.Room.{Serves};
+ghost use Rattle.row_values.specs.Workspace.{Serves};
 ghost use Rattle.row_values.specs.Rows.{HoldsAnswers, HoldsTints, HoldsZones, doubled, tint_value};
 ghost use Rattle.page_model.specs.Columns.{column_decider};
 ghost use Rattle.page_model.specs.Page.{InPage, height, plates, width};
@@ -17,9 +17,9 @@ ghost use Rattle.page_model.specs.Limits.{most_reach, most_side};
 use crate::arms::edge_at;
 use crate::nearest::nearest_arms;
 use crate::quiet::{are_quiet, is_quiet};
+use crate::row_buffers::RowBuffers;
 use crate::rows::{Rows, row_of, row_of_bytes};
 use crate::tint_rows::{copy_row, put_tints};
-use crate::workspace::Workspace;
 use page_model::edges::squared_distance;
 use page_model::page::Page;
 use page_model::parts::{At, EdgeAt};
@@ -150,19 +150,26 @@ fn trap_samples(
 }
 
 /// Traps the samples of a row.
-fn trap_row(page: &Page, y: u32, zones: &[u8], codes: &[u16], out: &mut [u16], room: &mut Workspace)
+fn trap_row(
+    page: &Page,
+    y: u32,
+    zones: &[u8],
+    codes: &[u16],
+    out: &mut [u16],
+    workspace: &mut RowBuffers,
+)
     requires row { y < height page.now }
     requires zones { AreZones page.now y zones.now }
     requires codes { AreAnswers page.now (page_reach page.now) y (doubled page.now) codes.now }
-    requires room { Serves room.old page.now }
+    requires workspace { Serves workspace.old page.now }
     requires out { IsRowTo page.now y 0 out.old }
     ensures out { IsRowTo page.now y (width page.now) out.new }
-    ensures room { room.new ≡ room.old }
+    ensures workspace { workspace.new ≡ workspace.old }
 {
     let reach2 = page.reach2();
-    let arms = room.arms.as_mut_slice();
-    let columns = room.columns.as_mut_slice();
-    let places = room.places.as_mut_slice();
+    let arms = workspace.arms.as_mut_slice();
+    let columns = workspace.columns.as_mut_slice();
+    let places = workspace.places.as_mut_slice();
     nearest_arms(
         page,
         codes,
@@ -171,25 +178,32 @@ fn trap_row(page: &Page, y: u32, zones: &[u8], codes: &[u16], out: &mut [u16], r
         arms,
         columns,
         places,
-        &mut room.hull,
+        &mut workspace.hull,
     );
-    let tints = room.tints.as_mut_slice();
+    let tints = workspace.tints.as_mut_slice();
     trap_samples(page, zones, y, reach2, codes, columns, places, tints, out);
 }
 
 /// Writes the new tints of a row, which are its own where no edge is within reach.
-fn fill_row(page: &Page, y: u32, zones: &[u8], codes: &[u16], out: &mut [u16], room: &mut Workspace)
+fn fill_row(
+    page: &Page,
+    y: u32,
+    zones: &[u8],
+    codes: &[u16],
+    out: &mut [u16],
+    workspace: &mut RowBuffers,
+)
     requires row { y < height page.now }
     requires zones { AreZones page.now y zones.now }
     requires codes { AreAnswers page.now (page_reach page.now) y (doubled page.now) codes.now }
-    requires room { Serves room.old page.now }
+    requires workspace { Serves workspace.old page.now }
     requires out { length out.old ≡ plates page.now * width page.now }
     ensures out { IsRowTo page.now y (width page.now) out.new }
-    ensures room { room.new ≡ room.old }
+    ensures workspace { workspace.new ≡ workspace.old }
 {
     copy_row(page, y, out);
     if !is_quiet(page, y, codes) {
-        trap_row(page, y, zones, codes, out, room);
+        trap_row(page, y, zones, codes, out, workspace);
     }
 }
 
@@ -201,22 +215,22 @@ pub fn make_row(
     zones: &[u8],
     codes: &[u16],
     out: &mut [u16],
-    room: &mut Workspace,
+    workspace: &mut RowBuffers,
 )
     requires row { y < height page.now }
     requires zones { AreZones page.now y zones.now }
     requires codes { AreAnswers page.now (page_reach page.now) y (doubled page.now) codes.now }
-    requires room { Serves room.old page.now }
+    requires workspace { Serves workspace.old page.now }
     requires out { length out.old ≡ plates page.now * width page.now }
     ensures tints { (c x : ℕ) → c < plates page.now → x < width page.now
         → slice_index out.new (c * width page.now + x) ≡ new page.now (record { x = x; y = y }) c }
     ensures values { (o : ℕ) → o < plates page.now * width page.now
         → slice_index out.new o ≡ tint_value page.now y o }
     ensures len { length out.new ≡ length out.old }
-    ensures room { room.new ≡ room.old }
+    ensures workspace { workspace.new ≡ workspace.old }
 {
     let _valid = page.plates();
-    fill_row(page, y, zones, codes, out, room);
+    fill_row(page, y, zones, codes, out, workspace);
 }
 
 /// Writes the new tints of row k of these rows.
@@ -227,21 +241,21 @@ fn write_tints(
     zones: &[u8],
     codes: &[u16],
     out: &mut [u16],
-    room: &mut Workspace,
+    workspace: &mut RowBuffers,
 )
     requires zones { HoldsZones page.now rows zones.now }
     requires answers { HoldsAnswers page.now rows codes.now }
     requires row { k < rows.count }
     requires inside { rows.first + rows.count ≤ height page.now }
     requires out { length out.old ≡ rows.count * (plates page.now * width page.now) }
-    requires room { Serves room.old page.now }
+    requires workspace { Serves workspace.old page.now }
     ensures here { (o : ℕ) → o < plates page.now * width page.now
         → slice_index out.new (k * (plates page.now * width page.now) + o)
         ≡ tint_value page.now (rows.first + k) o }
     ensures kept { (i : ℕ) → i < k * (plates page.now * width page.now)
         → slice_index out.new i ≡ slice_index out.old i }
     ensures len { length out.new ≡ length out.old }
-    ensures room { room.new ≡ room.old }
+    ensures workspace { workspace.new ≡ workspace.old }
 {
     let width = page.width() as usize;
     let wide = page.plates() as usize * width;
@@ -254,7 +268,7 @@ fn write_tints(
         here,
         row,
         &mut out[start..start + wide],
-        room,
+        workspace,
     );
 }
 
@@ -266,18 +280,18 @@ pub fn make_tints(
     zones: &[u8],
     codes: &[u16],
     out: &mut [u16],
-    room: &mut Workspace,
+    workspace: &mut RowBuffers,
 )
     requires zones { HoldsZones page.now rows zones.now }
     requires answers { HoldsAnswers page.now rows codes.now }
     requires inside { rows.first + rows.count ≤ height page.now }
     requires out { length out.old ≡ rows.count * (plates page.now * width page.now) }
-    requires room { Serves room.old page.now }
+    requires workspace { Serves workspace.old page.now }
     ensures tints { HoldsTints page.now rows out.new }
     ensures len { length out.new ≡ length out.old }
-    ensures room { room.new ≡ room.old }
+    ensures workspace { workspace.new ≡ workspace.old }
 {
     for k in 0..rows.count {
-        write_tints(page, rows, k, zones, codes, out, room);
+        write_tints(page, rows, k, zones, codes, out, workspace);
     }
 }

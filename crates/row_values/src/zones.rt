@@ -1,11 +1,11 @@
 ghost use Rattle.std.specs.Prelude.{◌≡◌, ◌<◌, ◌≤◌, ◌+◌, ◌*◌, ℕ, length, slice_index};
-ghost use Rattle.row_values.specs.Room.{Serves};
+ghost use Rattle.row_values.specs.Workspace.{Serves};
 ghost use Rattle.row_values.specs.Rows.{HoldsZones, zone_value};
 ghost use Rattle.page_model.specs.Page.{height, width};
 ghost use Rattle.zone_map.specs.Extents.{SpansZones};
 
+use crate::row_buffers::RowBuffers;
 use crate::rows::Rows;
-use crate::workspace::Workspace;
 use page_model::page::Page;
 use zone_map::{Extent, NO_EXTENT, SpanBuf, write_extents, zone_row_near};
 
@@ -56,13 +56,13 @@ fn zones_into(page: &Page, rows: Rows, out: &mut [u8], spans: &mut SpanBuf)
 }
 
 /// Writes the zones of the samples of these rows, row by row.
-pub fn make_zones(page: &Page, rows: Rows, out: &mut [u8], room: &mut Workspace)
+pub fn make_zones(page: &Page, rows: Rows, out: &mut [u8], workspace: &mut RowBuffers)
     requires inside { rows.first + rows.count ≤ height page.now }
     requires out { length out.old ≡ rows.count * width page.now }
-    requires room { Serves room.old page.now }
+    requires workspace { Serves workspace.old page.now }
     ensures zones { HoldsZones page.now rows out.new }
     ensures len { length out.new ≡ length out.old }
-    ensures room { room.new ≡ room.old }
+    ensures workspace { workspace.new ≡ workspace.old }
 {
-    zones_into(page, rows, out, &mut room.spans);
+    zones_into(page, rows, out, &mut workspace.spans);
 }

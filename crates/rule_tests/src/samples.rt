@@ -1,4 +1,4 @@
-use page_source::sample::{SampleRefusal, sample_page};
+use page_source::sample::{SampleError, sample_page};
 use std::test::Fail;
 
 #[test]
@@ -26,6 +26,6 @@ fn tiles_have_their_colours(rt: HostRuntime) -> Result<(), Fail> {
     }
     assert_eq!(rt; page.reach2(), 12);
     let refused = sample_page(rt.alloc(), 0, 16384, 16384);
-    assert!(rt; matches!(refused, Err(SampleRefusal::TooManySamples)));
+    assert!(rt; matches!(refused, Err(SampleError::TooManySamples)));
     Ok(())
 }

@@ -10,7 +10,7 @@ use Rattle.sheet_geometry.specs.Windows.{window}
 use Rattle.sheet_geometry.proofs.Areas.{area-columns}
 use Rattle.sheet_geometry.proofs.Parts.{plates-same, zones-same}
 use Rattle.sheet_geometry.proofs.Tiles.{tile_law}
-use Rattle.sheet_engine.specs.Growth.{AddsArea, Grows, HasRoom, HasRooms}
+use Rattle.sheet_engine.specs.Growth.{AddsArea, Grows, HasWorkspace, HasWorkspaces}
 use Rattle.sheet_engine.specs.declared.counts.SheetCounts.{SheetCounts}
 
 grows_same : (n m : ℕ) (by to : ℕ → ℕ) (before after : List ℕ) → n ≡ m → ((z : ℕ) → by z ≡ to z) → Grows n by before after → Grows m to before after
@@ -28,14 +28,14 @@ tile_adds sheet tile x y rows before after is h =
       edges = h.edges ∙ (λ i. before.edges + law.edges i);
     }
 
-room_same : (n m more : ℕ) (counts : List ℕ) → m ≡ n → HasRoom n more counts → HasRoom m more counts
-room_same n m more counts e h = record { long = h.long ∙ sym e; low = λ z l. h.low z (omega (arith, l, e)) }
+workspace_same : (n m more : ℕ) (counts : List ℕ) → m ≡ n → HasWorkspace n more counts → HasWorkspace m more counts
+workspace_same n m more counts e h = record { long = h.long ∙ sym e; low = λ z l. h.low z (omega (arith, l, e)) }
 
-pub rooms_same : (sheet : PageParts) (cut : Cut) (more : ℕ) (counts : SheetCounts) → HasRooms sheet more counts → HasRooms (window sheet cut) more counts
-rooms_same sheet cut more counts h = record {
-  zone_samples = room_same (length sheet.zones) (length (window sheet cut).zones) more counts.zone_samples.items (zones-same sheet cut) h.zone_samples;
-  zone_changed = room_same (length sheet.zones) (length (window sheet cut).zones) more counts.zone_changed.items (zones-same sheet cut) h.zone_changed;
-  plate_changed = room_same (plates sheet) (plates (window sheet cut)) more counts.plate_changed.items (plates-same sheet cut) h.plate_changed;
+pub workspaces_same : (sheet : PageParts) (cut : Cut) (more : ℕ) (counts : SheetCounts) → HasWorkspaces sheet more counts → HasWorkspaces (window sheet cut) more counts
+workspaces_same sheet cut more counts h = record {
+  zone_samples = workspace_same (length sheet.zones) (length (window sheet cut).zones) more counts.zone_samples.items (zones-same sheet cut) h.zone_samples;
+  zone_changed = workspace_same (length sheet.zones) (length (window sheet cut).zones) more counts.zone_changed.items (zones-same sheet cut) h.zone_changed;
+  plate_changed = workspace_same (plates sheet) (plates (window sheet cut)) more counts.plate_changed.items (plates-same sheet cut) h.plate_changed;
   edges = h.edges;
 }
 

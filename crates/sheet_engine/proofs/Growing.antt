@@ -10,7 +10,7 @@ use Rattle.page_model.specs.Page.{plates}
 use Rattle.page_model.specs.Zones.{zone_of}
 use Rattle.sheet_geometry.specs.Areas.{area_sum, changes_in, changes_plate, edges_at, lies_in, one_if}
 use Rattle.sheet_engine.proofs.RowSums.{one_few, row_few}
-use Rattle.sheet_engine.specs.Growth.{AddsArea, AddsRow, Grows, HasRoom, HasRooms, row_sum}
+use Rattle.sheet_engine.specs.Growth.{AddsArea, AddsRow, Grows, HasWorkspace, HasWorkspaces, row_sum}
 use Rattle.sheet_engine.specs.declared.counts.SheetCounts.{SheetCounts}
 
 -- the first k of n counts have grown
@@ -64,17 +64,17 @@ area_edges page left top wide (suc k) = (let a = area_edges page left top wide k
 rows_fit : (wide rows k : ℕ) → k < rows → wide * k + wide ≤ wide * rows
 rows_fit wide rows k l = (let t : wide * suc k ≤ wide * rows = mul-le-mul_left wide l in omega (arith, t))
 
-room_after : (n left top wide rows k : ℕ) (f : ℕ → At → Bool) (before counts : List ℕ) → HasRoom n (wide * rows) before → Grows n (λ z. area_sum (λ p. one_if (f z p)) left top wide k) before counts → k < rows → HasRoom n wide counts
-room_after n left top wide rows k f before counts room h l = record {
-  long = h.long ∙ room.long;
-  low = λ z m. (let a = h.each z m in let b = room.low z m in let few = area_few (f z) left top wide k in let fit = rows_fit wide rows k l in omega (arith, a, b, few, fit));
+workspace_after : (n left top wide rows k : ℕ) (f : ℕ → At → Bool) (before counts : List ℕ) → HasWorkspace n (wide * rows) before → Grows n (λ z. area_sum (λ p. one_if (f z p)) left top wide k) before counts → k < rows → HasWorkspace n wide counts
+workspace_after n left top wide rows k f before counts workspace h l = record {
+  long = h.long ∙ workspace.long;
+  low = λ z m. (let a = h.each z m in let b = workspace.low z m in let few = area_few (f z) left top wide k in let fit = rows_fit wide rows k l in omega (arith, a, b, few, fit));
 }
 
 -- there is room for a row that is still to come
-pub room_left : (page : PageParts) (left top wide rows k : ℕ) (before counts : SheetCounts) → HasRooms page (wide * rows) before → AddsArea page left top wide k before counts → k < rows → HasRooms page wide counts
-room_left page left top wide rows k before counts room h l = record {
-  zone_samples = room_after (length page.zones) left top wide rows k (λ z p. zone_of page p == z) before.zone_samples.items counts.zone_samples.items room.zone_samples h.zone_samples l;
-  zone_changed = room_after (length page.zones) left top wide rows k (λ z p. (zone_of page p == z) && sample_changes page p) before.zone_changed.items counts.zone_changed.items room.zone_changed h.zone_changed l;
-  plate_changed = room_after (plates page) left top wide rows k (λ c p. plate_changes page c p) before.plate_changed.items counts.plate_changed.items room.plate_changed h.plate_changed l;
-  edges = (let a = h.edges in let b = room.edges in let few = area_edges page left top wide k in let fit = rows_fit wide rows k l in omega (arith, a, b, few, fit));
+pub workspace_left : (page : PageParts) (left top wide rows k : ℕ) (before counts : SheetCounts) → HasWorkspaces page (wide * rows) before → AddsArea page left top wide k before counts → k < rows → HasWorkspaces page wide counts
+workspace_left page left top wide rows k before counts workspace h l = record {
+  zone_samples = workspace_after (length page.zones) left top wide rows k (λ z p. zone_of page p == z) before.zone_samples.items counts.zone_samples.items workspace.zone_samples h.zone_samples l;
+  zone_changed = workspace_after (length page.zones) left top wide rows k (λ z p. (zone_of page p == z) && sample_changes page p) before.zone_changed.items counts.zone_changed.items workspace.zone_changed h.zone_changed l;
+  plate_changed = workspace_after (plates page) left top wide rows k (λ c p. plate_changes page c p) before.plate_changed.items counts.plate_changed.items workspace.plate_changed h.plate_changed l;
+  edges = (let a = h.edges in let b = workspace.edges in let few = area_edges page left top wide k in let fit = rows_fit wide rows k l in omega (arith, a, b, few, fit));
 }

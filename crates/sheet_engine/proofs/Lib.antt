@@ -4,6 +4,6 @@ pub mod Whole
 pub mod Adding
 pub mod Walking
 pub mod CoreRows
-pub mod RoomLemmas
+pub mod WorkspaceLemmas
 pub mod Wholes
 pub mod WorkLemmas

@@ -5,7 +5,7 @@ use Rattle.std.proofs.lemmas.Bool.{cases_eq, eq-eqb, eqb-true, false_from_ne_tru
 use Rattle.std.proofs.lemmas.List.{get_or-set_same, get_or-set_other, length-set}
 use Rattle.page_model.specs.declared.parts.At.{At}
 use Rattle.sheet_geometry.specs.Areas.{one_if}
-use Rattle.sheet_engine.specs.Growth.{Grows, HasRoom, row_sum}
+use Rattle.sheet_engine.specs.Growth.{Grows, HasWorkspace, row_sum}
 
 abbrev at_ : ℕ → ℕ → At
 at_ x y = record { x = x; y = y }
@@ -58,9 +58,9 @@ row_few test y left zero = omega arith
 row_few test y left (suc n) = omega (arith, row_few test y left n, one_few (test (at_ (left + n) y)))
 
 -- a count in which one more fits
-pub fits : (n y left k wide a : ℕ) (f : ℕ → At → Bool) (before counts : List ℕ) → HasRoom n wide before → a < n → k < wide → Grows n (λ z. row_sum (λ p. one_if (f z p)) y left k) before counts → (a < length counts) × (slice_index counts a + 1 < 2 ^ 64)
-fits n y left k wide a f before counts room inside l h =
-    let e = h.long in let f' = room.long in let low = room.low a inside in let each = h.each a inside in let few = row_few (f a) y left k in
+pub fits : (n y left k wide a : ℕ) (f : ℕ → At → Bool) (before counts : List ℕ) → HasWorkspace n wide before → a < n → k < wide → Grows n (λ z. row_sum (λ p. one_if (f z p)) y left k) before counts → (a < length counts) × (slice_index counts a + 1 < 2 ^ 64)
+fits n y left k wide a f before counts workspace inside l h =
+    let e = h.long in let f' = workspace.long in let low = workspace.low a inside in let each = h.each a inside in let few = row_few (f a) y left k in
     (omega (arith, e, f', inside), omega (arith, low, each, few, l))
 
 -- a sum over a row, one sample further

@@ -12,7 +12,7 @@ use Rattle.sheet_geometry.specs.declared.spans.Span.{Span}
 use Rattle.sheet_geometry.specs.Areas.{area_sum, changes_in, changes_plate, edges_at, lies_in, one_if}
 use Rattle.sheet_geometry.proofs.Areas.{area-no_columns}
 use Rattle.sheet_geometry.specs.Spans.{AreSpans, IsSpan}
-use Rattle.sheet_engine.specs.Growth.{AddsArea, Grows, HasRoom, HasRooms}
+use Rattle.sheet_engine.specs.Growth.{AddsArea, Grows, HasWorkspace, HasWorkspaces}
 use Rattle.sheet_engine.specs.declared.counts.SheetCounts.{SheetCounts}
 use Rattle.sheet_engine.proofs.Growing.{area_edges, area_few}
 
@@ -39,19 +39,19 @@ spans_order ruler (span ∷ spans) at end are = (let rest = spans_order ruler sp
 columns_fit : (left core wide rows : ℕ) → left + core ≤ wide → left * rows + core * rows ≤ wide * rows
 columns_fit left core wide rows l = (let t : (left + core) * rows ≤ wide * rows = mul-le-mul l (omega arith) in omega (arith, t))
 
-room_after : (n top left core wide rows : ℕ) (f : ℕ → At → Bool) (before counts : List ℕ) → HasRoom n (wide * rows) before → Grows n (λ z. area_sum (λ p. one_if (f z p)) 0 top left rows) before counts → left + core ≤ wide → HasRoom n (core * rows) counts
-room_after n top left core wide rows f before counts room h l = record {
-  long = h.long ∙ room.long;
-  low = λ z m. (let a = h.each z m in let b = room.low z m in let few = area_few (f z) 0 top left rows in let fit = columns_fit left core wide rows l in omega (arith, a, b, few, fit));
+workspace_after : (n top left core wide rows : ℕ) (f : ℕ → At → Bool) (before counts : List ℕ) → HasWorkspace n (wide * rows) before → Grows n (λ z. area_sum (λ p. one_if (f z p)) 0 top left rows) before counts → left + core ≤ wide → HasWorkspace n (core * rows) counts
+workspace_after n top left core wide rows f before counts workspace h l = record {
+  long = h.long ∙ workspace.long;
+  low = λ z m. (let a = h.each z m in let b = workspace.low z m in let few = area_few (f z) 0 top left rows in let fit = columns_fit left core wide rows l in omega (arith, a, b, few, fit));
 }
 
 -- there is room for a window that is still to come
-pub room_left : (sheet : PageParts) (top left core wide rows : ℕ) (before counts : SheetCounts) → HasRooms sheet (wide * rows) before → AddsArea sheet 0 top left rows before counts → left + core ≤ wide → HasRooms sheet (core * rows) counts
-room_left sheet top left core wide rows before counts room h l = record {
-  zone_samples = room_after (length sheet.zones) top left core wide rows (λ z p. zone_of sheet p == z) before.zone_samples.items counts.zone_samples.items room.zone_samples h.zone_samples l;
-  zone_changed = room_after (length sheet.zones) top left core wide rows (λ z p. (zone_of sheet p == z) && sample_changes sheet p) before.zone_changed.items counts.zone_changed.items room.zone_changed h.zone_changed l;
-  plate_changed = room_after (plates sheet) top left core wide rows (λ c p. plate_changes sheet c p) before.plate_changed.items counts.plate_changed.items room.plate_changed h.plate_changed l;
-  edges = (let a = h.edges in let b = room.edges in let few = area_edges sheet 0 top left rows in let fit = columns_fit left core wide rows l in omega (arith, a, b, few, fit));
+pub workspace_left : (sheet : PageParts) (top left core wide rows : ℕ) (before counts : SheetCounts) → HasWorkspaces sheet (wide * rows) before → AddsArea sheet 0 top left rows before counts → left + core ≤ wide → HasWorkspaces sheet (core * rows) counts
+workspace_left sheet top left core wide rows before counts workspace h l = record {
+  zone_samples = workspace_after (length sheet.zones) top left core wide rows (λ z p. zone_of sheet p == z) before.zone_samples.items counts.zone_samples.items workspace.zone_samples h.zone_samples l;
+  zone_changed = workspace_after (length sheet.zones) top left core wide rows (λ z p. (zone_of sheet p == z) && sample_changes sheet p) before.zone_changed.items counts.zone_changed.items workspace.zone_changed h.zone_changed l;
+  plate_changed = workspace_after (plates sheet) top left core wide rows (λ c p. plate_changes sheet c p) before.plate_changed.items counts.plate_changed.items workspace.plate_changed h.plate_changed l;
+  edges = (let a = h.edges in let b = workspace.edges in let few = area_edges sheet 0 top left rows in let fit = columns_fit left core wide rows l in omega (arith, a, b, few, fit));
 }
 
 drop_past : {X : Type 0} (xs : List X) (i : ℕ) → length xs ≤ i → drop i xs ≡ []

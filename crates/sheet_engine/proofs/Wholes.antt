@@ -23,7 +23,7 @@ use Rattle.sheet_geometry.proofs.Tiles.{rows_to}
 use Rattle.sheet_engine.specs.Strips.{IsSomeSpan}
 use Rattle.sheet_engine.specs.Whole.{AreTintsTo, HasStrip, IsCounted}
 use Rattle.sheet_engine.specs.Works.{AreNone}
-use Rattle.sheet_engine.specs.Growth.{AddsArea, Grows, HasRoom, HasRooms}
+use Rattle.sheet_engine.specs.Growth.{AddsArea, Grows, HasWorkspace, HasWorkspaces}
 use Rattle.sheet_engine.specs.declared.counts.SheetCounts.{SheetCounts}
 use Rattle.sheet_engine.proofs.Growing.{area_edges, area_few}
 
@@ -56,19 +56,19 @@ rows_add sheet left top wide a b before mid after g h = record {
 rows_fit : (wide at rows high : ℕ) → at + rows ≤ high → wide * at + wide * rows ≤ wide * high
 rows_fit wide at rows high l = (let t : wide * (at + rows) ≤ wide * high = mul-le-mul (omega arith) l in omega (arith, t))
 
-room_after : (n wide at rows high : ℕ) (f : ℕ → At → Bool) (before counts : List ℕ) → HasRoom n (wide * high) before → Grows n (λ z. area_sum (λ p. one_if (f z p)) 0 0 wide at) before counts → at + rows ≤ high → HasRoom n (wide * rows) counts
-room_after n wide at rows high f before counts room h l = record {
-  long = h.long ∙ room.long;
-  low = λ z m. (let a = h.each z m in let b = room.low z m in let few = area_few (f z) 0 0 wide at in let fit = rows_fit wide at rows high l in omega (arith, a, b, few, fit));
+workspace_after : (n wide at rows high : ℕ) (f : ℕ → At → Bool) (before counts : List ℕ) → HasWorkspace n (wide * high) before → Grows n (λ z. area_sum (λ p. one_if (f z p)) 0 0 wide at) before counts → at + rows ≤ high → HasWorkspace n (wide * rows) counts
+workspace_after n wide at rows high f before counts workspace h l = record {
+  long = h.long ∙ workspace.long;
+  low = λ z m. (let a = h.each z m in let b = workspace.low z m in let few = area_few (f z) 0 0 wide at in let fit = rows_fit wide at rows high l in omega (arith, a, b, few, fit));
 }
 
 -- there is room for a strip that is still to come
-pub strip_room : (sheet : PageParts) (wide at rows high : ℕ) (before counts : SheetCounts) → HasRooms sheet (wide * high) before → AddsArea sheet 0 0 wide at before counts → at + rows ≤ high → HasRooms sheet (wide * rows) counts
-strip_room sheet wide at rows high before counts room h l = record {
-  zone_samples = room_after (length sheet.zones) wide at rows high (λ z p. zone_of sheet p == z) before.zone_samples.items counts.zone_samples.items room.zone_samples h.zone_samples l;
-  zone_changed = room_after (length sheet.zones) wide at rows high (λ z p. (zone_of sheet p == z) && sample_changes sheet p) before.zone_changed.items counts.zone_changed.items room.zone_changed h.zone_changed l;
-  plate_changed = room_after (plates sheet) wide at rows high (λ c p. plate_changes sheet c p) before.plate_changed.items counts.plate_changed.items room.plate_changed h.plate_changed l;
-  edges = (let a = h.edges in let b = room.edges in let few = area_edges sheet 0 0 wide at in let fit = rows_fit wide at rows high l in omega (arith, a, b, few, fit));
+pub strip_workspace : (sheet : PageParts) (wide at rows high : ℕ) (before counts : SheetCounts) → HasWorkspaces sheet (wide * high) before → AddsArea sheet 0 0 wide at before counts → at + rows ≤ high → HasWorkspaces sheet (wide * rows) counts
+strip_workspace sheet wide at rows high before counts workspace h l = record {
+  zone_samples = workspace_after (length sheet.zones) wide at rows high (λ z p. zone_of sheet p == z) before.zone_samples.items counts.zone_samples.items workspace.zone_samples h.zone_samples l;
+  zone_changed = workspace_after (length sheet.zones) wide at rows high (λ z p. (zone_of sheet p == z) && sample_changes sheet p) before.zone_changed.items counts.zone_changed.items workspace.zone_changed h.zone_changed l;
+  plate_changed = workspace_after (plates sheet) wide at rows high (λ c p. plate_changes sheet c p) before.plate_changed.items counts.plate_changed.items workspace.plate_changed h.plate_changed l;
+  edges = (let a = h.edges in let b = workspace.edges in let few = area_edges sheet 0 0 wide at in let fit = rows_fit wide at rows high l in omega (arith, a, b, few, fit));
 }
 
 few_samples : (w h : ℕ) → w < 2 ^ 30 → h < 2 ^ 30 → w * h ≤ 2 ^ 60
@@ -78,19 +78,19 @@ few_samples w h lw lh =
     let t : w * h ≤ 1073741824 * 1073741824 = mul-le-mul a b in
     omega (arith, t)
 
-room_of_none : (n more : ℕ) (counts : List ℕ) → counts ≡ replicate n 0 → more ≤ 2 ^ 60 → HasRoom n more counts
-room_of_none n more counts e l = record {
+workspace_of_none : (n more : ℕ) (counts : List ℕ) → counts ≡ replicate n 0 → more ≤ 2 ^ 60 → HasWorkspace n more counts
+workspace_of_none n more counts e l = record {
   long = ap length e ∙ length-replicate n 0;
   low = λ z m. (let a : slice_index counts z ≡ 0 = ap (λ (xs : List ℕ). slice_index xs z) e ∙ get_or-replicate n z 0 0 m in omega (arith, a, l));
 }
 
-pub none_room : (sheet : PageParts) (counts : SheetCounts) → AreNone sheet counts → width sheet < 2 ^ 30 → height sheet < 2 ^ 30 → HasRooms sheet (width sheet * height sheet) counts
-none_room sheet counts none lw lh =
+pub none_workspace : (sheet : PageParts) (counts : SheetCounts) → AreNone sheet counts → width sheet < 2 ^ 30 → height sheet < 2 ^ 30 → HasWorkspaces sheet (width sheet * height sheet) counts
+none_workspace sheet counts none lw lh =
     let few = few_samples (width sheet) (height sheet) lw lh in
     record {
-      zone_samples = room_of_none (length sheet.zones) (width sheet * height sheet) counts.zone_samples.items none.zone_samples few;
-      zone_changed = room_of_none (length sheet.zones) (width sheet * height sheet) counts.zone_changed.items none.zone_changed few;
-      plate_changed = room_of_none (plates sheet) (width sheet * height sheet) counts.plate_changed.items none.plate_changed few;
+      zone_samples = workspace_of_none (length sheet.zones) (width sheet * height sheet) counts.zone_samples.items none.zone_samples few;
+      zone_changed = workspace_of_none (length sheet.zones) (width sheet * height sheet) counts.zone_changed.items none.zone_changed few;
+      plate_changed = workspace_of_none (plates sheet) (width sheet * height sheet) counts.plate_changed.items none.plate_changed few;
       edges = (let e = none.edges in omega (arith, e, few));
     }
 

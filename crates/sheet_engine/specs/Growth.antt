@@ -18,7 +18,7 @@ pub record Grows (n : ℕ) (by : ℕ → ℕ) (before after : List ℕ) : Type 0
   pub each : (z : ℕ) → z < n → slice_index after z ≡ slice_index before z + by z
 
 -- n counts that may each grow by so much
-pub record HasRoom (n more : ℕ) (counts : List ℕ) : Type 0 where
+pub record HasWorkspace (n more : ℕ) (counts : List ℕ) : Type 0 where
   pub long : length counts ≡ n
   pub low : (z : ℕ) → z < n → slice_index counts z + more < 2 ^ 64
 
@@ -56,8 +56,8 @@ pub record AddsArea (page : PageParts) (left top wide rows : ℕ) (before after 
   pub edges : after.edges ≡ before.edges + area_sum (edges_at page) left top wide rows
 
 -- the counts may grow by `more` samples of the page, each with two edges
-pub record HasRooms (page : PageParts) (more : ℕ) (counts : SheetCounts) : Type 0 where
-  pub zone_samples : HasRoom (length page.zones) more counts.zone_samples.items
-  pub zone_changed : HasRoom (length page.zones) more counts.zone_changed.items
-  pub plate_changed : HasRoom (plates page) more counts.plate_changed.items
+pub record HasWorkspaces (page : PageParts) (more : ℕ) (counts : SheetCounts) : Type 0 where
+  pub zone_samples : HasWorkspace (length page.zones) more counts.zone_samples.items
+  pub zone_changed : HasWorkspace (length page.zones) more counts.zone_changed.items
+  pub plate_changed : HasWorkspace (plates page) more counts.plate_changed.items
   pub edges : counts.edges + 2 * more < 2 ^ 64

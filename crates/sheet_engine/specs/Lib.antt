@@ -1,5 +1,5 @@
 pub mod Growth
-pub mod Rooms
+pub mod Workspaces
 pub mod Strips
 pub mod Whole
 pub mod Works

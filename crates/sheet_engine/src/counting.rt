@@ -3,12 +3,12 @@
 ghost use Rattle.std.specs.Prelude.{◌≡◌, IfOk};
 ghost use Rattle.sheet_engine.specs.Works.{AreAdded, AreNone, CanAdd};
 
+use crate::counts::SheetCounts;
 use lists::memory::no_counts;
 use page_model::parts::OutOfMemory;
 use page_tally::add_counts;
-use std::alloc::Global;
-use crate::counts::SheetCounts;
 use sheet_geometry::window_sheet::Sheet;
+use std::alloc::Global;
 
 /// Allocates the counts of a sheet, all 0.
 pub fn no_sheet_counts(alloc: Global, sheet: &Sheet) -> Result<SheetCounts, OutOfMemory>

@@ -4,8 +4,8 @@
 
 pub mod counting;
 pub mod counts;
-pub mod room;
 pub mod rows;
 pub mod tile;
 pub mod tile_rows;
 pub mod tints;
+pub mod workspace;

@@ -5,15 +5,15 @@ ghost use Rattle.page_model.specs.Page.{plates, width};
 ghost use Rattle.sheet_geometry.specs.Plans.{AreRulers, tile_of};
 ghost use Rattle.sheet_geometry.specs.Spans.{AreSpans};
 ghost use Rattle.sheet_geometry.specs.Tiles.{strip_row, strip_rows};
-ghost use Rattle.sheet_engine.specs.Rooms.{columns_in, tiles_in};
+ghost use Rattle.sheet_engine.specs.Workspaces.{columns_in, tiles_in};
 ghost use Rattle.sheet_engine.specs.Strips.{IsSomeSpan, planes_of};
 
-use crate::room::StripRoom;
 use crate::tints::row_of_core;
+use crate::workspace::StripWorkspace;
 use page_model::parts::OutOfMemory;
 use sheet_geometry::spans::{Ruler, Span};
-use std::alloc::Global;
 use sheet_geometry::window_sheet::Sheet;
+use std::alloc::Global;
 
 /// Writes tints to `out`, from one place on.
 fn put_run(run: &[u16], from: usize, out: &mut [u16])
@@ -29,27 +29,27 @@ pub fn put_strip_row(
     across: &Ruler,
     down: &Ruler,
     row: &Span,
-    room: &StripRoom,
+    workspace: &StripWorkspace,
     k: u32,
     c: u32,
     out: &mut [u16],
 )
     requires rulers { AreRulers strip.now across.now down.now }
-    requires columns { AreSpans across.now 0 (columns_in room.now) (width strip.now) }
+    requires columns { AreSpans across.now 0 (columns_in workspace.now) (width strip.now) }
     requires row { IsSomeSpan down.now row.now }
-    requires tiles { tiles_in room.now ≡ map (planes_of strip.now row.now) (columns_in room.now) }
+    requires tiles { tiles_in workspace.now ≡ map (planes_of strip.now row.now) (columns_in workspace.now) }
     requires plate { c < plates strip.now }
     requires line { k < row.now.core }
     requires out { length out.old ≡ width strip.now }
     ensures { out.new ≡ strip_row c strip.now k
-        (map (λ column. tile_of column row.now) (columns_in room.now)) }
+        (map (λ column. tile_of column row.now) (columns_in workspace.now)) }
 {
     let _valid = strip.width();
-    let windows = room.windows.as_slice();
+    let windows = workspace.windows.as_slice();
     let mut left = 0;
     for j in 0..windows.len() {
         let window = &windows[j];
-        let planes = window.room.outcome.planes.as_slice();
+        let planes = window.workspace.outcome.planes.as_slice();
         let run = row_of_core(strip, across, down, planes, &window.column, row, k, c);
         put_run(run, left as usize, out);
         left += window.column.core;
@@ -64,24 +64,24 @@ pub fn strip_tints(
     across: &Ruler,
     down: &Ruler,
     row: &Span,
-    room: &StripRoom,
+    workspace: &StripWorkspace,
     c: u32,
     line: &mut [u16],
 ) -> Result<Vec<u16>, OutOfMemory>
     requires rulers { AreRulers strip.now across.now down.now }
-    requires columns { AreSpans across.now 0 (columns_in room.now) (width strip.now) }
+    requires columns { AreSpans across.now 0 (columns_in workspace.now) (width strip.now) }
     requires row { IsSomeSpan down.now row.now }
-    requires tiles { tiles_in room.now ≡ map (planes_of strip.now row.now) (columns_in room.now) }
+    requires tiles { tiles_in workspace.now ≡ map (planes_of strip.now row.now) (columns_in workspace.now) }
     requires plate { c < plates strip.now }
     requires line { length line.old ≡ width strip.now }
     ensures line { length line.new ≡ length line.old }
     ensures tints { IfOk result (λ tints. tints.items
-        ≡ strip_rows c strip.now (map (λ column. tile_of column row.now) (columns_in room.now))
+        ≡ strip_rows c strip.now (map (λ column. tile_of column row.now) (columns_in workspace.now))
         row.now.core) }
 {
     let mut out = Vec::new(alloc);
     for k in 0..row.core {
-        put_strip_row(strip, across, down, row, room, k, c, line);
+        put_strip_row(strip, across, down, row, workspace, k, c, line);
         if out.extend_from_slice(line).is_err() {
             return Err(OutOfMemory);
         }

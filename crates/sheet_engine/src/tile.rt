@@ -10,8 +10,8 @@ ghost use Rattle.page_tally.specs.Shapes.{shape_of};
 ghost use Rattle.page_tally.specs.Standing.{AreTrappedTo, IsTrappedTo};
 ghost use Rattle.page_tally.specs.Uncounted.{HasTints};
 ghost use Rattle.strip_engine.specs.StripBuffers.{AreBuffers};
-ghost use Rattle.strip_engine.specs.Rooms.{IsRoomFor};
-ghost use Rattle.sheet_engine.specs.Growth.{AddsArea, AddsRow, Grows, HasRoom, HasRooms, LiesOn, row_sum};
+ghost use Rattle.strip_engine.specs.Workspaces.{IsWorkspaceFor};
+ghost use Rattle.sheet_engine.specs.Growth.{AddsArea, AddsRow, Grows, HasWorkspace, HasWorkspaces, LiesOn, row_sum};
 
 use crate::counts::SheetCounts;
 use crate::tile_rows::{add_changed, add_zones, edges_of, plate_changes_in};
@@ -21,7 +21,7 @@ use page_tally::{are_clear, note_changes};
 use row_values::{row_of, tints_of_row};
 use sheet_geometry::cuts::Cut;
 use std::alloc::Global;
-use strip_engine::{PageRoom, StripBuffers, marks_of_row, zones_of_row};
+use strip_engine::{PageWorkspace, StripBuffers, marks_of_row, zones_of_row};
 
 /// Row y of the plane of plate c, which has the new tints of the whole page.
 fn row_of_plane<'a>(page: &Page, plane: &'a Plane, y: u32, c: u32) -> &'a [u16]
@@ -53,7 +53,7 @@ fn add_plates(page: &Page, planes: &[Plane], y: u32, left: usize, wide: usize, c
     requires planes { AreTrappedTo page.now planes.now (height page.now * width page.now) }
     requires row { y < height page.now }
     requires inside { left + wide ≤ width page.now }
-    requires room { HasRoom (plates page.now) wide counts.old }
+    requires workspace { HasWorkspace (plates page.now) wide counts.old }
     ensures { Grows (plates page.now) (λ c. row_sum (changes_plate c page.now) y left wide)
         counts.old counts.new }
 {
@@ -84,8 +84,8 @@ fn add_changes(
         ≡ sample_changes page.now (record { x = x; y = y }) }
     requires row { y < height page.now }
     requires inside { left + wide ≤ width page.now }
-    requires zone_room { HasRoom (length page.now.zones) wide counts.old.zone_changed.items }
-    requires plate_room { HasRoom (plates page.now) wide counts.old.plate_changed.items }
+    requires zone_workspace { HasWorkspace (length page.now.zones) wide counts.old.zone_changed.items }
+    requires plate_workspace { HasWorkspace (plates page.now) wide counts.old.plate_changed.items }
     ensures zone_changed { Grows (length page.now.zones)
         (λ z. row_sum (changes_in z page.now) y left wide)
         counts.old.zone_changed.items counts.new.zone_changed.items }
@@ -126,7 +126,7 @@ fn add_row(
     requires row { y < height page.now }
     requires inside { left + wide ≤ width page.now }
     requires changes { length changes.old ≡ width page.now }
-    requires room { HasRooms page.now wide counts.old }
+    requires workspace { HasWorkspaces page.now wide counts.old }
     ensures changes { length changes.new ≡ width page.now }
     ensures counts { AddsRow page.now y left wide counts.old counts.new }
 {
@@ -151,7 +151,7 @@ fn add_rows(
     requires buffers { AreBuffers page.now buffers.now }
     requires core { LiesOn page.now core.now }
     requires changes { length changes.old ≡ width page.now }
-    requires room { HasRooms page.now (core.now.width * core.now.height) counts.old }
+    requires workspace { HasWorkspaces page.now (core.now.width * core.now.height) counts.old }
     ensures changes { length changes.new ≡ width page.now }
     ensures counts { AddsArea page.now core.now.left core.now.top core.now.width core.now.height
         counts.old counts.new }
@@ -172,40 +172,45 @@ fn add_rows(
 }
 
 /// Adds the counts of a core of the page that was trapped with these buffers last.
-fn add_core(page: &Page, core: &Cut, room: &mut PageRoom, counts: &mut SheetCounts)
-    requires shape { IsRoomFor (shape_of page.now) room.old }
-    requires buffers { AreBuffers page.now room.old.buffers }
-    requires tints { HasTints page.now (height page.now) room.old.outcome }
+fn add_core(page: &Page, core: &Cut, workspace: &mut PageWorkspace, counts: &mut SheetCounts)
+    requires shape { IsWorkspaceFor (shape_of page.now) workspace.old }
+    requires buffers { AreBuffers page.now workspace.old.buffers }
+    requires tints { HasTints page.now (height page.now) workspace.old.outcome }
     requires core { LiesOn page.now core.now }
-    requires room { HasRooms page.now (core.now.width * core.now.height) counts.old }
-    ensures shape { IsRoomFor (shape_of page.now) room.new }
-    ensures planes { room.new.outcome.planes ≡ room.old.outcome.planes }
+    requires workspace { HasWorkspaces page.now (core.now.width * core.now.height) counts.old }
+    ensures shape { IsWorkspaceFor (shape_of page.now) workspace.new }
+    ensures planes { workspace.new.outcome.planes ≡ workspace.old.outcome.planes }
     ensures counts { AddsArea page.now core.now.left core.now.top core.now.width core.now.height
         counts.old counts.new }
 {
     add_rows(
         page,
-        room.outcome.planes.as_slice(),
-        &room.buffers,
+        workspace.outcome.planes.as_slice(),
+        &workspace.buffers,
         core,
-        &mut room.outcome.changes,
+        &mut workspace.outcome.changes,
         counts,
     );
 }
 
 /// Traps the page of a tile's window with buffers for pages of its shape, and adds the counts of its core to those of
-/// its sheet. It allocates nothing. `room.outcome` then has the page's new tints.
-pub fn trap_tile_in(page: &Page, core: &Cut, room: &mut PageRoom, counts: &mut SheetCounts)
-    requires shape { IsRoomFor (shape_of page.now) room.old }
+/// its sheet. It allocates nothing. `workspace.outcome` then has the page's new tints.
+pub fn trap_tile_in(
+    page: &Page,
+    core: &Cut,
+    workspace: &mut PageWorkspace,
+    counts: &mut SheetCounts,
+)
+    requires shape { IsWorkspaceFor (shape_of page.now) workspace.old }
     requires core { LiesOn page.now core.now }
-    requires room { HasRooms page.now (core.now.width * core.now.height) counts.old }
-    ensures shape { IsRoomFor (shape_of page.now) room.new }
-    ensures planes { room.new.outcome.planes ≡ trapped_planes page.now }
+    requires workspace { HasWorkspaces page.now (core.now.width * core.now.height) counts.old }
+    ensures shape { IsWorkspaceFor (shape_of page.now) workspace.new }
+    ensures planes { workspace.new.outcome.planes ≡ trapped_planes page.now }
     ensures counts { AddsArea page.now core.now.left core.now.top core.now.width core.now.height
         counts.old counts.new }
 {
-    room.trap_uncounted(page);
-    add_core(page, core, room, counts);
+    workspace.trap_uncounted(page);
+    add_core(page, core, workspace, counts);
 }
 
 /// Traps the page of a tile's window, and adds the counts of its core to those of its sheet. It fails only where memory
@@ -217,14 +222,14 @@ pub fn trap_tile(
     counts: &mut SheetCounts,
 ) -> Result<PlaneList, OutOfMemory>
     requires core { LiesOn page.now core.now }
-    requires room { HasRooms page.now (core.now.width * core.now.height) counts.old }
+    requires workspace { HasWorkspaces page.now (core.now.width * core.now.height) counts.old }
     ensures planes { IfOk result (λ planes. planes ≡ trapped_planes page.now) }
     ensures counts { OnOk result (AddsArea page.now core.now.left core.now.top core.now.width
         core.now.height counts.old counts.new) }
 {
-    let mut room = PageRoom::new(alloc, page)?;
-    room.trap_new_uncounted(page);
-    add_core(page, core, &mut room, counts);
-    let outcome = room.outcome;
+    let mut workspace = PageWorkspace::new(alloc, page)?;
+    workspace.trap_new_uncounted(page);
+    add_core(page, core, &mut workspace, counts);
+    let outcome = workspace.outcome;
     Ok(outcome.planes)
 }

@@ -7,7 +7,7 @@ ghost use Rattle.page_model.specs.Tints.{new};
 ghost use Rattle.page_model.specs.Zones.{AreZones};
 ghost use Rattle.sheet_geometry.specs.Areas.{changes_in, changes_plate, edges_at, lies_in, one_if as bit_of};
 ghost use Rattle.page_tally.specs.Standing.{AreMarks};
-ghost use Rattle.sheet_engine.specs.Growth.{Grows, HasRoom, row_sum};
+ghost use Rattle.sheet_engine.specs.Growth.{Grows, HasWorkspace, row_sum};
 
 use page_model::page::Page;
 use page_tally::{differences, edges_in};
@@ -65,7 +65,7 @@ fn count_changes(page: &Page, changes: &[bool], y: u32, left: usize, wide: usize
 pub fn add_zones(page: &Page, zones: &[u8], y: u32, left: usize, wide: usize, counts: &mut [u64])
     requires zones { AreZones page.now y zones.now }
     requires inside { left + wide ≤ width page.now }
-    requires room { HasRoom (length page.now.zones) wide counts.old }
+    requires workspace { HasWorkspace (length page.now.zones) wide counts.old }
     ensures { Grows (length page.now.zones) (λ z. row_sum (lies_in z page.now) y left wide)
         counts.old counts.new }
 {
@@ -80,7 +80,7 @@ pub fn add_zones(page: &Page, zones: &[u8], y: u32, left: usize, wide: usize, co
 fn add_each_zone(page: &Page, zones: &[u8], y: u32, left: usize, wide: usize, counts: &mut [u64])
     requires zones { AreZones page.now y zones.now }
     requires inside { left + wide ≤ width page.now }
-    requires room { HasRoom (length page.now.zones) wide counts.old }
+    requires workspace { HasWorkspace (length page.now.zones) wide counts.old }
     ensures { Grows (length page.now.zones) (λ z. row_sum (lies_in z page.now) y left wide)
         counts.old counts.new }
 {
@@ -106,7 +106,7 @@ pub fn add_changed(
     requires each { (x : ℕ) → x < width page.now → slice_index_or changes.now x false
         ≡ sample_changes page.now (record { x = x; y = y }) }
     requires inside { left + wide ≤ width page.now }
-    requires room { HasRoom (length page.now.zones) wide counts.old }
+    requires workspace { HasWorkspace (length page.now.zones) wide counts.old }
     ensures { Grows (length page.now.zones) (λ z. row_sum (changes_in z page.now) y left wide)
         counts.old counts.new }
 {
@@ -132,7 +132,7 @@ fn add_each_changed(
     requires each { (x : ℕ) → x < width page.now → slice_index_or changes.now x false
         ≡ sample_changes page.now (record { x = x; y = y }) }
     requires inside { left + wide ≤ width page.now }
-    requires room { HasRoom (length page.now.zones) wide counts.old }
+    requires workspace { HasWorkspace (length page.now.zones) wide counts.old }
     ensures { Grows (length page.now.zones) (λ z. row_sum (changes_in z page.now) y left wide)
         counts.old counts.new }
 {

@@ -4,7 +4,7 @@ use Rattle.std.proofs.lemmas.Bool.{cases_lt}
 use Rattle.std.proofs.lemmas.List.{length-map}
 use Rattle.job_reader.specs.declared.job.Job.{Job}
 use Rattle.job_reader.specs.Jobs.{job_of}
-use Rattle.outside.specs.Causes.{Rose, Asks, AsksPrefix}
+use Rattle.outside.specs.ErrorCases.{Rose, Asks, AsksPrefix}
 use Rattle.outside.specs.Tray.{TrayState, KeepsTray}
 use Rattle.outside.proofs.Names.{asks_all, asks_prefix, asks_none_of, asks_then}
 use Rattle.outside.proofs.Steps.{kept_tray, rose_before}
@@ -17,25 +17,25 @@ use Rattle.page_model.specs.declared.parts.PageParts.{PageParts}
 use Rattle.page_model.specs.Page.{plates}
 use Rattle.pgm_plates.specs.declared.plate.Plate.{Plate as PlateRead}
 use Rattle.pgm_plates.specs.declared.plate.PlateFault.{PlateFault}
-use Rattle.pgm_plates.specs.declared.plate.PlateRefusal.TheVariants.{Fault}
+use Rattle.pgm_plates.specs.declared.plate.PlateError.TheVariants.{Fault}
 use Rattle.pgm_plates.specs.declared.plate.PlateFault.TheVariants.{BadMagic, BadHeader, SideRange, TooManySamples, MaxvalRange, SampleAboveMaxval, Truncated, TrailingBytes}
 use Rattle.pgm_plates.specs.Planes.{plane_of}
 use Rattle.pgm_plates.specs.Reading.{KeepsCount}
-use Rattle.refusals.specs.declared.refusal.Refusal.{Refusal}
-use Rattle.refusals.specs.declared.refusal.Refusal.TheVariants.{Usage, Job as JobFails, NoDetails, Plate, Page, Read, Write, Memory}
+use Rattle.common_errors.specs.declared.common.CommonError.{CommonError}
+use Rattle.common_errors.specs.declared.common.CommonError.TheVariants.{Usage, Job as JobFails, NoDetails, Plate, Page, Read, Write, Memory}
 use Rattle.sheet_geometry.specs.declared.budget.Budget.{Budget}
-use Rattle.sheet_geometry.specs.declared.refusal.SheetRefusal.{SheetRefusal}
-use Rattle.sheet_geometry.specs.Refusals.{sheet_refusal}
+use Rattle.sheet_geometry.specs.declared.sheet_errors.SheetError.{SheetError}
+use Rattle.sheet_geometry.specs.CommonErrors.{sheet_error}
 use Rattle.sheet_geometry.specs.Sheets.{IsSheet}
-use Rattle.sheet_files.specs.Inputs.{AreSpelled, MakesSheet, SheetInputs, Spells, detailed, held_by, judged, plates_by, sheet_of}
+use Rattle.sheet_files.specs.Inputs.{AreSpelled, MakesSheet, SheetInputs, Spells, detailed, stored_by, judged, plates_by, sheet_of}
 use Rattle.sheet_files.specs.SheetFiles.{IsSheetFault}
 use Rattle.sheet_files.specs.Steps.{IsFaultless, MayTakeFile, ReadsFirst, ReadsPlates, StopsAt, TakesFile, TakesFiles, common}
 use Rattle.sheet_files.specs.Gathering.{AsksAll, InHand, IsMadeSheet, TakesTrays}
 use Rattle.sheet_files.specs.Judging.{AnswersJudging, JudgesSheet}
 use Rattle.plate_rows.specs.Trays.{IsCalm, tray_at}
 use Rattle.sheet_files.specs.Trays.{AllTell, tray_files}
-use Rattle.sheet_files.specs.declared.stop.TrapsheetError.{TrapsheetError}
-use Rattle.sheet_files.specs.declared.stop.TrapsheetError.TheVariants.{Common, OfSheet}
+use Rattle.sheet_files.specs.declared.error.TrapsheetError.{TrapsheetError}
+use Rattle.sheet_files.specs.declared.error.TrapsheetError.TheVariants.{Common, OfSheet}
 use Rattle.sheet_files.proofs.TrayLemmas.{calm_is, keeps_is, takes_before}
 
 -- a tray that is as it was was asked for no file
@@ -110,8 +110,8 @@ module _ (source : Sources) (count : ℕ) (a b c : List TrayState) (first : Keep
   pub all_tell_on : (n : ℕ) → AllTell n a → AllTell n b
   all_tell_on n tell k less = tells_on k (tell k less)
 
-  pub held_before : (k : ℕ) (name : List ℕ) (Fact : List ℕ → Type 0) → Spells ((tray_at b k).file name) Fact → Spells ((tray_at a k).file name) Fact
-  held_before k name Fact there = (there.0, ap (λ (files : List ℕ → Option (List ℕ)). files name) (sym (job_keeps k).file) ∙ there.1, there.2)
+  pub stored_before : (k : ℕ) (name : List ℕ) (Fact : List ℕ → Type 0) → Spells ((tray_at b k).file name) Fact → Spells ((tray_at a k).file name) Fact
+  stored_before k name Fact there = (there.0, ap (λ (files : List ℕ → Option (List ℕ)). files name) (sym (job_keeps k).file) ∙ there.1, there.2)
 
   pub spelled_before : (n : ℕ) (read : List PlateRead) → AreSpelled (plates_by b source.inputs) n read → AreSpelled (plates_by a source.inputs) n read
   spelled_before n read there = record {
@@ -151,7 +151,7 @@ module _ (source : Sources) (budget : Budget) (a b : List TrayState) (some : 1 �
   job_takes : KeepsTray (tray_at a 0) (tray_at b 0) → Asks (tray_at a 0).asked (tray_at b 0).asked (source.job ∷ []) → TakesJob source.job (tray_at a 0) (tray_at b 0) → TakesTrays source a b
   job_takes keeps asked few = takes_trays source 0 a b b keeps asked few others none_taken some
 
-  answer_job : (refusal : Refusal) → ReadsJob source.job (tray_at a 0) (tray_at b 0) (Err refusal) → AnswersJob source.job (tray_at a 0) (tray_at b 0) (Err refusal) → PassesNoFault {T = Job} (tray_at a 0) (tray_at b 0) (Err refusal) → AnswersJudging source budget a b (Err (Common refusal))
+  answer_job : (common_error : CommonError) → ReadsJob source.job (tray_at a 0) (tray_at b 0) (Err common_error) → AnswersJob source.job (tray_at a 0) (tray_at b 0) (Err common_error) → PassesNoFault {T = Job} (tray_at a 0) (tray_at b 0) (Err common_error) → AnswersJudging source budget a b (Err (Common common_error))
   answer_job (JobFails fault) reads answer count = AnswersJudging.refused (Common (JobFails fault)) refl (record {
     of_input = tt;
     verdict = λ tells. answer (tells 0 (omega arith));
@@ -172,17 +172,17 @@ module _ (source : Sources) (budget : Budget) (a b : List TrayState) (some : 1 �
   answer_job (Read (Some plate)) reads answer count = absurd answer
   answer_job (Write file) reads answer count = absurd answer
 
-  by_refusal : (stop : TrapsheetError) (read : Result Job Refusal) → ◌≡◌ {A = Result Job TrapsheetError} (Err stop) (common read) → ReadsJob source.job (tray_at a 0) (tray_at b 0) read → JudgesSheet source budget a b (Err stop)
-  by_refusal stop (Ok job) same reads = absurd (cc)
-  by_refusal stop (Err refusal) same reads =
-      let is : stop ≡ Common refusal = cc in
+  by_error : (error : TrapsheetError) (read : Result Job CommonError) → ◌≡◌ {A = Result Job TrapsheetError} (Err error) (common read) → ReadsJob source.job (tray_at a 0) (tray_at b 0) read → JudgesSheet source budget a b (Err error)
+  by_error error (Ok job) same reads = absurd (cc)
+  by_error error (Err common_error) same reads =
+      let is : error ≡ Common common_error = cc in
       subst (λ (s : TrapsheetError). JudgesSheet source budget a b (Err s)) (sym is) (record {
         takes = job_takes reads.keeps reads.asked reads.few;
-        answer = answer_job refusal reads reads.answer reads.count;
+        answer = answer_job common_error reads reads.answer reads.count;
       })
 
-pub job_refused : (source : Sources) (budget : Budget) (a b : List TrayState) (stop : TrapsheetError) → 1 ≤ length source.inputs → ReadsFirst source.job a b (Err stop) → JudgesSheet source budget a b (Err stop)
-job_refused source budget a b stop some first = by_refusal source budget a b some first.others stop first.read first.same first.first
+pub job_refused : (source : Sources) (budget : Budget) (a b : List TrayState) (error : TrapsheetError) → 1 ≤ length source.inputs → ReadsFirst source.job a b (Err error) → JudgesSheet source budget a b (Err error)
+job_refused source budget a b error some first = by_error source budget a b some first.others error first.read first.same first.first
 
 -- A sheet was made of the job and the plates.
 pub record IsReady (source : Sources) (a c : List TrayState) (sheet : PageParts) : Type 0 where
@@ -199,22 +199,22 @@ module _ (source : Sources) (budget : Budget) (a b c : List TrayState) (job : Jo
   asks : (count : ℕ) → TakesFiles source.inputs count b c → (k : ℕ) → k < count → AsksAll source a c k
   asks count next = asks_of source count a b c first.keeps first.asked first.few others next some
 
-  job_told : IsTrue (tray_at a 0).tells → Spells ((tray_at a 0).file source.job) (λ bytes. job_of bytes ≡ Ok job)
-  job_told tells = first.answer.1 tells
+  job_reported : IsTrue (tray_at a 0).tells → Spells ((tray_at a 0).file source.job) (λ bytes. job_of bytes ≡ Ok job)
+  job_reported tells = first.answer.1 tells
 
   all_calm : ((k : ℕ) → IsCalm b c k) → (k : ℕ) → IsCalm a c k
   all_calm then k = both_calm a b c others first.count k (then k)
 
   plate_fails : (plate : ℕ) (fault : PlateFault) → StopsAt source.inputs plate b c → KeepsCount {T = PlateRead} (tray_at b plate) (tray_at c plate) (Err (Fault fault)) → (IsTrue (tray_at b plate).tells → Spells (plates_by b source.inputs plate) (λ bytes. IsSheetFault bytes fault)) → AnswersJudging source budget a c (Err (Common (Plate plate fault)))
-  plate_fails plate fault stops count told = AnswersJudging.refused (Common (Plate plate fault)) refl (record {
+  plate_fails plate fault stops count reported = AnswersJudging.refused (Common (Plate plate fault)) refl (record {
     of_input = tt;
     verdict = λ tells. record {
       job = job;
       plates = stops.plates;
-      job_read = job_told (tells 0 (omega arith));
+      job_read = job_reported (tells 0 (omega arith));
       before = before plate stops (λ k less. tells k (let known = stops.known in omega arith));
       known = (let known = stops.known in omega arith);
-      broken = held_before source (plate + 1) a b c first.keeps first.asked first.few others stops.takes some plate (name_at source.inputs plate) (λ bytes. IsSheetFault bytes fault) (told ((job_keeps_at plate).tells ∙ tells plate stops.known));
+      broken = stored_before source (plate + 1) a b c first.keeps first.asked first.few others stops.takes some plate (name_at source.inputs plate) (λ bytes. IsSheetFault bytes fault) (reported ((job_keeps_at plate).tells ∙ tells plate stops.known));
     };
     begun = λ k less. asks (plate + 1) stops.takes k (omega arith);
     count = (λ k less. both_calm a b c others first.count k (stops.calm k less), count_before a b c others first.count plate fault count);
@@ -235,7 +235,7 @@ module _ (source : Sources) (budget : Budget) (a b c : List TrayState) (job : Jo
       known = stops.known;
       job = job;
       plates = stops.plates;
-      job_read = job_told;
+      job_read = job_reported;
       before_it = λ tells. spelled_before source (plate + 1) a b c first.keeps first.asked first.few others stops.takes some plate stops.plates (stops.before_it (λ k less. (job_keeps_at k).tells ∙ tells k less));
       taken = faultless_before source (plate + 1) a b c first.keeps first.asked first.few others stops.takes some plate faultless;
     };
@@ -247,75 +247,75 @@ module _ (source : Sources) (budget : Budget) (a b c : List TrayState) (job : Jo
   same_error : (one two : TrapsheetError) → ◌≡◌ {A = Result (List PlateRead) TrapsheetError} (Err one) (Err two) → two ≡ one
   same_error one two is = cc
 
-  by_plates : (stop : TrapsheetError) → ReadsPlates source.inputs b c (Err stop) → JudgesSheet source budget a c (Err stop)
-  by_plates stop (ReadsPlates.read plates is long ok takes calm told) = absurd (cc)
-  by_plates stop (ReadsPlates.fails plate fault is stops count told) =
-      subst (λ (s : TrapsheetError). JudgesSheet source budget a c (Err s)) (same_error stop (Common (Plate plate fault)) is) (record {
+  by_plates : (error : TrapsheetError) → ReadsPlates source.inputs b c (Err error) → JudgesSheet source budget a c (Err error)
+  by_plates error (ReadsPlates.read plates is long ok takes calm reported) = absurd (cc)
+  by_plates error (ReadsPlates.fails plate fault is stops count reported) =
+      subst (λ (s : TrapsheetError). JudgesSheet source budget a c (Err s)) (same_error error (Common (Plate plate fault)) is) (record {
         takes = trays (plate + 1) stops.takes;
-        answer = plate_fails plate fault stops count told;
+        answer = plate_fails plate fault stops count reported;
       })
-  by_plates stop (ReadsPlates.unread plate is stops rose faultless) =
-      subst (λ (s : TrapsheetError). JudgesSheet source budget a c (Err s)) (same_error stop (Common (Read (Some plate))) is) (record {
+  by_plates error (ReadsPlates.unread plate is stops rose faultless) =
+      subst (λ (s : TrapsheetError). JudgesSheet source budget a c (Err s)) (same_error error (Common (Read (Some plate))) is) (record {
         takes = trays (plate + 1) stops.takes;
         answer = plate_breaks plate stops rose faultless;
       })
 
   -- All plates are read: what they make.
-  module _ (read : List PlateRead) (long : length read ≡ length source.inputs) (next : TakesFiles source.inputs (length source.inputs) b c) (calm : (k : ℕ) → IsCalm b c k) (told : AllTell (length source.inputs) b → AreSpelled (plates_by b source.inputs) (length source.inputs) read) where
-    inputs_told : AllTell (length source.inputs) a → SheetInputs (held_by a source) (length source.names) job read
-    inputs_told tells = record {
-      job_read = job_told (tells 0 (omega arith));
+  module _ (read : List PlateRead) (long : length read ≡ length source.inputs) (next : TakesFiles source.inputs (length source.inputs) b c) (calm : (k : ℕ) → IsCalm b c k) (reported : AllTell (length source.inputs) b → AreSpelled (plates_by b source.inputs) (length source.inputs) read) where
+    inputs_reported : AllTell (length source.inputs) a → SheetInputs (stored_by a source) (length source.names) job read
+    inputs_reported tells = record {
+      job_read = job_reported (tells 0 (omega arith));
       plates_read = subst (λ (n : ℕ). AreSpelled (plates_by a source.inputs) n read) (sym named)
           (spelled_before source (length source.inputs) a b c first.keeps first.asked first.few others next some (length source.inputs) read
-          (told (all_tell_on source (length source.inputs) a b c first.keeps first.asked first.few others next some (length source.inputs) tells)));
+          (reported (all_tell_on source (length source.inputs) a b c first.keeps first.asked first.few others next some (length source.inputs) tells)));
     }
 
-    makes : (made : Result PageParts TrapsheetError) → sheet_of job read source.names ≡ made → AllTell (length source.inputs) a → MakesSheet (held_by a source) source.names made
-    makes made is tells = (job, read, inputs_told tells, is)
+    makes : (made : Result PageParts TrapsheetError) → sheet_of job read source.names ≡ made → AllTell (length source.inputs) a → MakesSheet (stored_by a source) source.names made
+    makes made is tells = (job, read, inputs_reported tells, is)
 
     -- a sheet that is made has as many planes as there are plates
-    judged_count : (o : Option SheetRefusal) (parts sheet : PageParts) → judged o parts ≡ Ok sheet → plates sheet ≡ plates parts
+    judged_count : (o : Option SheetError) (parts sheet : PageParts) → judged o parts ≡ Ok sheet → plates sheet ≡ plates parts
     judged_count None parts sheet is = let same : parts ≡ sheet = cc in ap plates (sym same)
-    judged_count (Some refusal) parts sheet is = absurd (cc)
+    judged_count (Some common_error) parts sheet is = absurd (cc)
 
     detailed_count : (o : Option ℕ) (parts sheet : PageParts) → detailed o parts ≡ Ok sheet → plates sheet ≡ plates parts
-    detailed_count None parts sheet is = judged_count (sheet_refusal parts) parts sheet is
+    detailed_count None parts sheet is = judged_count (sheet_error parts) parts sheet is
     detailed_count (Some plate) parts sheet is = absurd (cc)
 
     sheet_count : (sheet : PageParts) → sheet_of job read source.names ≡ Ok sheet → plates sheet ≡ length source.inputs
     sheet_count sheet is = detailed_count (without_details job source.names) (assembled job read source.names) sheet is ∙ length-map read plane_of ∙ long
 
-    -- a refusal of what is made is of the details or of the sheet
-    data OfMade (stop : TrapsheetError) : Type 0 where
-      of_details : (plate : ℕ) → stop ≡ Common (NoDetails plate) → OfMade stop
-      of_sheet : (refusal : SheetRefusal) → stop ≡ OfSheet refusal → OfMade stop
+    -- a error of what is made is of the details or of the sheet
+    data OfMade (error : TrapsheetError) : Type 0 where
+      of_details : (plate : ℕ) → error ≡ Common (NoDetails plate) → OfMade error
+      of_sheet : (common_error : SheetError) → error ≡ OfSheet common_error → OfMade error
 
-    of_judged : (o : Option SheetRefusal) (parts : PageParts) (stop : TrapsheetError) → judged o parts ≡ Err stop → OfMade stop
-    of_judged None parts stop is = absurd (cc)
-    of_judged (Some refusal) parts stop is = of_sheet refusal (let same : OfSheet refusal ≡ stop = cc in sym same)
+    of_judged : (o : Option SheetError) (parts : PageParts) (error : TrapsheetError) → judged o parts ≡ Err error → OfMade error
+    of_judged None parts error is = absurd (cc)
+    of_judged (Some common_error) parts error is = of_sheet common_error (let same : OfSheet common_error ≡ error = cc in sym same)
 
-    of_made : (o : Option ℕ) (parts : PageParts) (stop : TrapsheetError) → detailed o parts ≡ Err stop → OfMade stop
-    of_made None parts stop is = of_judged (sheet_refusal parts) parts stop is
-    of_made (Some plate) parts stop is = of_details plate (let same : Common (NoDetails plate) ≡ stop = cc in sym same)
+    of_made : (o : Option ℕ) (parts : PageParts) (error : TrapsheetError) → detailed o parts ≡ Err error → OfMade error
+    of_made None parts error is = of_judged (sheet_error parts) parts error is
+    of_made (Some plate) parts error is = of_details plate (let same : Common (NoDetails plate) ≡ error = cc in sym same)
 
-    sheet_refused : (stop : TrapsheetError) → sheet_of job read source.names ≡ Err stop → OfMade stop → AnswersJudging source budget a c (Err stop)
-    sheet_refused stop is (of_details plate same) = subst (λ (s : TrapsheetError). AnswersJudging source budget a c (Err s)) (sym same) (AnswersJudging.refused (Common (NoDetails plate)) refl (record {
+    sheet_refused : (error : TrapsheetError) → sheet_of job read source.names ≡ Err error → OfMade error → AnswersJudging source budget a c (Err error)
+    sheet_refused error is (of_details plate same) = subst (λ (s : TrapsheetError). AnswersJudging source budget a c (Err s)) (sym same) (AnswersJudging.refused (Common (NoDetails plate)) refl (record {
       of_input = tt;
       verdict = λ tells. makes (Err (Common (NoDetails plate))) (is ∙ ap (λ (s : TrapsheetError). Err s) same) tells;
       begun = asks (length source.inputs) next;
       count = all_calm calm;
     }))
-    sheet_refused stop is (of_sheet refusal same) = subst (λ (s : TrapsheetError). AnswersJudging source budget a c (Err s)) (sym same) (AnswersJudging.refused (OfSheet refusal) refl (record {
+    sheet_refused error is (of_sheet common_error same) = subst (λ (s : TrapsheetError). AnswersJudging source budget a c (Err s)) (sym same) (AnswersJudging.refused (OfSheet common_error) refl (record {
       of_input = tt;
-      verdict = λ tells. makes (Err (OfSheet refusal)) (is ∙ ap (λ (s : TrapsheetError). Err s) same) tells;
+      verdict = λ tells. makes (Err (OfSheet common_error)) (is ∙ ap (λ (s : TrapsheetError). Err s) same) tells;
       begun = asks (length source.inputs) next;
       count = all_calm calm;
     }))
 
-    pub made_refused : (stop : TrapsheetError) → sheet_of job read source.names ≡ Err stop → JudgesSheet source budget a c (Err stop)
-    made_refused stop is = record {
+    pub made_refused : (error : TrapsheetError) → sheet_of job read source.names ≡ Err error → JudgesSheet source budget a c (Err error)
+    made_refused error is = record {
       takes = trays (length source.inputs) next;
-      answer = sheet_refused stop is (of_made (without_details job source.names) (assembled job read source.names) stop is);
+      answer = sheet_refused error is (of_made (without_details job source.names) (assembled job read source.names) error is);
     }
 
     pub no_memory : JudgesSheet source budget a c (Err (Common Memory))
@@ -325,7 +325,7 @@ module _ (source : Sources) (budget : Budget) (a b c : List TrayState) (job : Jo
     }
 
     -- what is so of a sheet that was made, whatever is done with it
-    pub made_of : (sheet : PageParts) → sheet_of job read source.names ≡ Ok sheet → IsSheet sheet → sheet_refusal sheet ≡ None → IsReady source a c sheet
+    pub made_of : (sheet : PageParts) → sheet_of job read source.names ≡ Ok sheet → IsSheet sheet → sheet_error sheet ≡ None → IsReady source a c sheet
     made_of sheet made valid accepted = record {
       made = record { valid = valid; accepted = accepted; count = sheet_count sheet made; made = makes (Ok sheet) made };
       asks = asks (length source.inputs) next;
@@ -334,25 +334,25 @@ module _ (source : Sources) (budget : Budget) (a b c : List TrayState) (job : Jo
     }
 
 -- A job that was read is the one that was answered.
-first_ok : (name : List ℕ) (a b : List TrayState) (job : Job) (read : Result Job Refusal) → ◌≡◌ {A = Result Job TrapsheetError} (Ok job) (common read) → ReadsJob name (tray_at a 0) (tray_at b 0) read → ReadsJob name (tray_at a 0) (tray_at b 0) (Ok job)
+first_ok : (name : List ℕ) (a b : List TrayState) (job : Job) (read : Result Job CommonError) → ◌≡◌ {A = Result Job TrapsheetError} (Ok job) (common read) → ReadsJob name (tray_at a 0) (tray_at b 0) read → ReadsJob name (tray_at a 0) (tray_at b 0) (Ok job)
 first_ok name a b job (Ok other) same reads = let is : other ≡ job = cc in subst (λ (j : Job). ReadsJob name (tray_at a 0) (tray_at b 0) (Ok j)) is reads
-first_ok name a b job (Err refusal) same reads = absurd (cc)
+first_ok name a b job (Err common_error) same reads = absurd (cc)
 
-pub plates_refused : (source : Sources) (budget : Budget) (a b c : List TrayState) (job : Job) (stop : TrapsheetError) → 1 ≤ length source.inputs → length source.names ≡ length source.inputs → ReadsFirst source.job a b (Ok job) → ReadsPlates source.inputs b c (Err stop) → JudgesSheet source budget a c (Err stop)
-plates_refused source budget a b c job stop some named first next = by_plates source budget a b c job some named first.others (first_ok source.job a b job first.read first.same first.first) stop next
+pub plates_refused : (source : Sources) (budget : Budget) (a b c : List TrayState) (job : Job) (error : TrapsheetError) → 1 ≤ length source.inputs → length source.names ≡ length source.inputs → ReadsFirst source.job a b (Ok job) → ReadsPlates source.inputs b c (Err error) → JudgesSheet source budget a c (Err error)
+plates_refused source budget a b c job error some named first next = by_plates source budget a b c job some named first.others (first_ok source.job a b job first.read first.same first.first) error next
 
 -- A sheet that the job and the plates make is refused, or there is no memory for what is known of it.
-module _ (source : Sources) (budget : Budget) (a b c : List TrayState) (job : Job) (read : List PlateRead) (some : 1 ≤ length source.inputs) (named : length source.names ≡ length source.inputs) (first : ReadsFirst source.job a b (Ok job)) (long : length read ≡ length source.inputs) (takes : TakesFiles source.inputs (length source.inputs) b c) (calm : (k : ℕ) → IsCalm b c k) (told : AllTell (length source.inputs) b → AreSpelled (plates_by b source.inputs) (length source.inputs) read) where
-  pub sheet_refused_as : (stop : TrapsheetError) → sheet_of job read source.names ≡ Err stop → JudgesSheet source budget a c (Err stop)
-  sheet_refused_as stop is = made_refused source budget a b c job some named first.others (first_ok source.job a b job first.read first.same first.first) read long takes calm told stop is
+module _ (source : Sources) (budget : Budget) (a b c : List TrayState) (job : Job) (read : List PlateRead) (some : 1 ≤ length source.inputs) (named : length source.names ≡ length source.inputs) (first : ReadsFirst source.job a b (Ok job)) (long : length read ≡ length source.inputs) (takes : TakesFiles source.inputs (length source.inputs) b c) (calm : (k : ℕ) → IsCalm b c k) (reported : AllTell (length source.inputs) b → AreSpelled (plates_by b source.inputs) (length source.inputs) read) where
+  pub sheet_refused_as : (error : TrapsheetError) → sheet_of job read source.names ≡ Err error → JudgesSheet source budget a c (Err error)
+  sheet_refused_as error is = made_refused source budget a b c job some named first.others (first_ok source.job a b job first.read first.same first.first) read long takes calm reported error is
 
   pub no_memory_left : JudgesSheet source budget a c (Err (Common Memory))
-  no_memory_left = no_memory source budget a b c job some named first.others (first_ok source.job a b job first.read first.same first.first) read long takes calm told
+  no_memory_left = no_memory source budget a b c job some named first.others (first_ok source.job a b job first.read first.same first.first) read long takes calm reported
 
 -- as many files as inputs that give their names
 pub as_many : {X : Type 0} (text : X → List ℕ) (inputs : List X) → length (map text inputs) ≡ length inputs
 as_many text inputs = length-map inputs text
 
-pub sheet_ready : (source : Sources) (a b c : List TrayState) (job : Job) (read : List PlateRead) (sheet : PageParts) → 1 ≤ length source.inputs → length source.names ≡ length source.inputs → ReadsFirst source.job a b (Ok job) → length read ≡ length source.inputs → TakesFiles source.inputs (length source.inputs) b c → ((k : ℕ) → IsCalm b c k) → (AllTell (length source.inputs) b → AreSpelled (plates_by b source.inputs) (length source.inputs) read) → sheet_of job read source.names ≡ Ok sheet → IsSheet sheet → sheet_refusal sheet ≡ None → IsReady source a c sheet
-sheet_ready source a b c job read sheet some named first long takes calm told made valid accepted =
-    made_of source (record { rows = 0; samples = 0 }) a b c job some named first.others (first_ok source.job a b job first.read first.same first.first) read long takes calm told sheet made valid accepted
+pub sheet_ready : (source : Sources) (a b c : List TrayState) (job : Job) (read : List PlateRead) (sheet : PageParts) → 1 ≤ length source.inputs → length source.names ≡ length source.inputs → ReadsFirst source.job a b (Ok job) → length read ≡ length source.inputs → TakesFiles source.inputs (length source.inputs) b c → ((k : ℕ) → IsCalm b c k) → (AllTell (length source.inputs) b → AreSpelled (plates_by b source.inputs) (length source.inputs) read) → sheet_of job read source.names ≡ Ok sheet → IsSheet sheet → sheet_error sheet ≡ None → IsReady source a c sheet
+sheet_ready source a b c job read sheet some named first long takes calm reported made valid accepted =
+    made_of source (record { rows = 0; samples = 0 }) a b c job some named first.others (first_ok source.job a b job first.read first.same first.first) read long takes calm reported sheet made valid accepted

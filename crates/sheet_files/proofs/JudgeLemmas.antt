@@ -13,21 +13,21 @@ use Rattle.page_model.specs.Planes.{no_plane, plane_at}
 use Rattle.pgm_plates.specs.declared.bounds.Bounds.TheVariants.{Sheet}
 use Rattle.pgm_plates.specs.declared.header.Header.{Header}
 use Rattle.pgm_plates.specs.declared.plate.Plate.{Plate as PlateRead}
-use Rattle.pgm_plates.specs.declared.plate.PlateRefusal.TheVariants.{Fault, ReadFault}
+use Rattle.pgm_plates.specs.declared.plate.PlateError.TheVariants.{Fault, ReadFault}
 use Rattle.pgm_plates.specs.Laws.{FileFaultWithin}
 use Rattle.pgm_plates.specs.Planes.{plane_of}
 use Rattle.pgm_plates.specs.Rows.{IsWithin}
 use Rattle.plate_rows.specs.Judged.{AreJudged, AreJudgedTo, ArePlates, JudgingStops}
 use Rattle.plate_rows.specs.Judging.{JudgesPlates}
 use Rattle.plate_rows.specs.Trays.{MayTakeFile as MayBeTaken, TakesFile as FileTaken, TakesFiles as FilesTaken, header_in as header_there}
-use Rattle.refusals.specs.declared.refusal.Refusal.{Refusal}
-use Rattle.refusals.specs.declared.refusal.Refusal.TheVariants.{Job as JobFails, Memory, NoDetails, Page, Plate, Read, Usage, Write}
+use Rattle.common_errors.specs.declared.common.CommonError.{CommonError}
+use Rattle.common_errors.specs.declared.common.CommonError.TheVariants.{Job as JobFails, Memory, NoDetails, Page, Plate, Read, Usage, Write}
 use Rattle.sheet_geometry.specs.declared.budget.Budget.{Budget}
-use Rattle.sheet_geometry.specs.Refusals.{sheet_refusal}
-use Rattle.sheet_geometry.proofs.BareLemmas.{height_is, law_of, maxval_is, width_is}
+use Rattle.sheet_geometry.specs.CommonErrors.{sheet_error}
+use Rattle.sheet_geometry.proofs.OutlineLemmas.{height_is, law_of, maxval_is, width_is}
 use Rattle.sheet_files.specs.declared.planning.PlannedSheet.{PlannedSheet}
-use Rattle.sheet_files.specs.declared.stop.TrapsheetError.{TrapsheetError}
-use Rattle.sheet_files.specs.declared.stop.TrapsheetError.TheVariants.{Common}
+use Rattle.sheet_files.specs.declared.error.TrapsheetError.{TrapsheetError}
+use Rattle.sheet_files.specs.declared.error.TrapsheetError.TheVariants.{Common}
 use Rattle.sheet_files.specs.Inputs.{AreSpelled, Spells, plates_by}
 use Rattle.sheet_files.specs.Judging.{AnswersJudging, JudgesSheet, header_in}
 use Rattle.sheet_files.specs.Planning.{CanPlan, HaveHeaders, MakesWhole, PlansSheet, header_of}
@@ -68,7 +68,7 @@ taken_to names headers k a b to = record {
 }
 
 spelled : (names : List (List ℕ)) (headers : List Header) (count : ℕ) (a : List TrayState) (read : List PlateRead) → ArePlates names headers count a read → AllTell count a → AreSpelled (plates_by a names) count read
-spelled names headers count a read are tells = record { all = are.all; each = λ k less. are.told k less (tells k less) }
+spelled names headers count a read are tells = record { all = are.all; each = λ k less. are.reported k less (tells k less) }
 
 stops : (names : List (List ℕ)) (headers : List Header) (k : ℕ) (a b : List TrayState) → AreJudgedTo names headers k a b → StopsAt names k a b
 stops names headers k a b to = record {
@@ -80,7 +80,7 @@ stops names headers k a b to = record {
 }
 
 -- a plate is refused
-pub read_refused : JudgingStops → FileFaultWithin Sheet → (names : List (List ℕ)) (headers : List Header) (a b : List TrayState) (refusal : Refusal) → length names ≤ length headers → JudgesPlates names headers a b (Err refusal) → ReadsPlates names a b (Err (Common refusal))
+pub read_refused : JudgingStops → FileFaultWithin Sheet → (names : List (List ℕ)) (headers : List Header) (a b : List TrayState) (common_error : CommonError) → length names ≤ length headers → JudgesPlates names headers a b (Err common_error) → ReadsPlates names a b (Err (Common common_error))
 read_refused law faults names headers a b (Plate k fault) long there =
     let reads = there.here in
     ReadsPlates.fails k fault refl (stops names headers k a b (law names headers k (Fault fault) a b long there)) reads.count (faults (name_at names k) (tray_at a k) (tray_at b k) fault reads)
@@ -95,9 +95,9 @@ read_refused law faults names headers a b (Write file) long there = absurd there
 read_refused law faults names headers a b Memory long there = absurd there
 read_refused law faults names headers a b Usage long there = absurd there
 
-pub plate_refused : JudgingStops → FileFaultWithin Sheet → (source : Sources) (budget : Budget) (headers : List Header) (a b c : List TrayState) (job : Job) (refusal : Refusal) → 1 ≤ length source.inputs → length source.names ≡ length source.inputs → length source.inputs ≤ length headers → ReadsFirst source.job a b (Ok job) → JudgesPlates source.inputs headers b c (Err refusal) → JudgesSheet source budget a c (Err (Common refusal))
-plate_refused law faults source budget headers a b c job refusal some named long first there =
-    plates_refused source budget a b c job (Common refusal) some named first (read_refused law faults source.inputs headers b c refusal long there)
+pub plate_refused : JudgingStops → FileFaultWithin Sheet → (source : Sources) (budget : Budget) (headers : List Header) (a b c : List TrayState) (job : Job) (common_error : CommonError) → 1 ≤ length source.inputs → length source.names ≡ length source.inputs → length source.inputs ≤ length headers → ReadsFirst source.job a b (Ok job) → JudgesPlates source.inputs headers b c (Err common_error) → JudgesSheet source budget a c (Err (Common common_error))
+plate_refused law faults source budget headers a b c job common_error some named long first there =
+    plates_refused source budget a b c job (Common common_error) some named first (read_refused law faults source.inputs headers b c common_error long there)
 
 -- ---- all plates are judged
 
@@ -127,8 +127,8 @@ module _ (source : Sources) (budget : Budget) (headers : List Header) (a b c : L
   takes : TakesFiles source.inputs (length source.inputs) b c
   takes = taken_files source.inputs b c judged.takes
 
-  told : AllTell (length source.inputs) b → AreSpelled (plates_by b source.inputs) (length source.inputs) read
-  told = spelled source.inputs headers (length source.inputs) b read judged.are_plates
+  reported : AllTell (length source.inputs) b → AreSpelled (plates_by b source.inputs) (length source.inputs) read
+  reported = spelled source.inputs headers (length source.inputs) b read judged.are_plates
 
   -- the job left each tray of the same files
   job_keeps : (k : ℕ) → KeepsTray (tray_at a k) (tray_at b k)
@@ -139,27 +139,27 @@ module _ (source : Sources) (budget : Budget) (headers : List Header) (a b c : L
   plane_is k l = get_or-map plane_of read k no_plate no_plane l
 
   -- each plate has the sheet's header
-  header_is : (bare : PageParts) (k : ℕ) → MakesWhole job read source.names bare → k < length read → header_of (plate_at read k) ≡ header_in bare
-  header_is bare k whole l =
+  header_is : (outline : PageParts) (k : ℕ) → MakesWhole job read source.names outline → k < length read → header_of (plate_at read k) ≡ header_in outline
+  header_is outline k whole l =
       let sheet = assembled job read source.names in
       let plane = plane_is k l in
       let agrees = whole.sheet.agree k (omega (arith, l, length-map read plane_of)) in
-      let wide : (plate_at read k).width ≡ width bare = sym (ap (λ (p : Plane). p.width) plane) ∙ agrees.wide ∙ sym (width_is sheet) ∙ ap width whole.same in
-      let tall : (plate_at read k).height ≡ height bare = sym (ap (λ (p : Plane). p.height) plane) ∙ agrees.tall ∙ sym (height_is sheet) ∙ ap height whole.same in
-      let deep : (plate_at read k).maxval ≡ maxval bare = sym (ap (λ (p : Plane). p.maxval) plane) ∙ agrees.deep ∙ sym (maxval_is sheet) ∙ ap maxval whole.same in
+      let wide : (plate_at read k).width ≡ width outline = sym (ap (λ (p : Plane). p.width) plane) ∙ agrees.wide ∙ sym (width_is sheet) ∙ ap width whole.same in
+      let tall : (plate_at read k).height ≡ height outline = sym (ap (λ (p : Plane). p.height) plane) ∙ agrees.tall ∙ sym (height_is sheet) ∙ ap height whole.same in
+      let deep : (plate_at read k).maxval ≡ maxval outline = sym (ap (λ (p : Plane). p.maxval) plane) ∙ agrees.deep ∙ sym (maxval_is sheet) ∙ ap maxval whole.same in
       λ i. record { width = wide i; height = tall i; maxval = deep i }
 
-  header_told : (bare : PageParts) (k : ℕ) → MakesWhole job read source.names bare → k < length source.inputs → IsTrue (tray_at a k).tells → Spells (plates_by a source.inputs k) (λ bytes. (plate : PlateRead) × IsSheetFile bytes plate × (header_of plate ≡ header_in bare))
-  header_told bare k whole less tells =
-      let there = judged.are_plates.told k less ((job_keeps k).tells ∙ tells) in (
+  header_reported : (outline : PageParts) (k : ℕ) → MakesWhole job read source.names outline → k < length source.inputs → IsTrue (tray_at a k).tells → Spells (plates_by a source.inputs k) (λ bytes. (plate : PlateRead) × IsSheetFile bytes plate × (header_of plate ≡ header_in outline))
+  header_reported outline k whole less tells =
+      let there = judged.are_plates.reported k less ((job_keeps k).tells ∙ tells) in (
         there.0,
         ap (λ (files : List ℕ → Option (List ℕ)). files (name_at source.inputs k)) (sym (job_keeps k).file) ∙ there.1,
-        (plate_at read k, there.2, header_is bare k whole (omega (arith, less, judged.are_plates.all))),
+        (plate_at read k, there.2, header_is outline k whole (omega (arith, less, judged.are_plates.all))),
       )
 
-  ready : (planned : PlannedSheet) → MakesWhole job read source.names planned.bare → sheet_refusal planned.bare ≡ None → IsReady source a c (assembled job read source.names)
-  ready planned whole accepted = sheet_ready source a b c job read (assembled job read source.names) some named first judged.are_plates.all takes judged.calm told whole.made whole.sheet
-      (sym (law_of (assembled job read source.names)).refusal ∙ ap sheet_refusal whole.same ∙ accepted)
+  ready : (planned : PlannedSheet) → MakesWhole job read source.names planned.outline → sheet_error planned.outline ≡ None → IsReady source a c (assembled job read source.names)
+  ready planned whole accepted = sheet_ready source a b c job read (assembled job read source.names) some named first judged.are_plates.all takes judged.calm reported whole.made whole.sheet
+      (sym (law_of (assembled job read source.names)).same_error ∙ ap sheet_error whole.same ∙ accepted)
 
   pub sheet_judged : (result : Result PlannedSheet TrapsheetError) → PlansSheet budget job (take (length source.inputs) headers) source.names result → JudgesSheet source budget a c result
   sheet_judged result (PlansSheet.planned planned is valid blank accepted count plan makes) =
@@ -175,12 +175,12 @@ module _ (source : Sources) (budget : Budget) (headers : List Header) (a b c : L
           sheet = assembled job read source.names;
           made = here.made;
           same = whole.same;
-          headers = λ k less tells. header_told planned.bare k whole less tells;
+          headers = λ k less tells. header_reported planned.outline k whole less tells;
         }) here.asks here.calm;
       }
-  sheet_judged result (PlansSheet.refused stop is refuses) =
+  sheet_judged result (PlansSheet.refused error is refuses) =
       subst (λ (r : Result PlannedSheet TrapsheetError). JudgesSheet source budget a c r) (sym is)
-      (sheet_refused_as source budget a b c job read some named first judged.are_plates.all takes judged.calm told stop (refuses read have))
+      (sheet_refused_as source budget a b c job read some named first judged.are_plates.all takes judged.calm reported error (refuses read have))
   sheet_judged result (PlansSheet.no_memory is) =
       subst (λ (r : Result PlannedSheet TrapsheetError). JudgesSheet source budget a c r) (sym is)
-      (no_memory_left source budget a b c job read some named first judged.are_plates.all takes judged.calm told)
+      (no_memory_left source budget a b c job read some named first judged.are_plates.all takes judged.calm reported)

@@ -17,22 +17,22 @@ use Rattle.pgm_plates.specs.declared.header.Header.{Header}
 use Rattle.pgm_plates.specs.declared.plate.Plate.{Plate}
 use Rattle.pgm_plates.specs.Planes.{plane_of}
 use Rattle.pgm_plates.specs.Rows.{IsWithin}
-use Rattle.refusals.specs.declared.refusal.Refusal.TheVariants.{NoDetails}
+use Rattle.common_errors.specs.declared.common.CommonError.TheVariants.{NoDetails}
 use Rattle.sheet_geometry.specs.declared.budget.Budget.{Budget}
-use Rattle.sheet_geometry.specs.declared.refusal.SheetRefusal.{SheetRefusal}
-use Rattle.sheet_geometry.specs.Refusals.{sheet_refusal}
+use Rattle.sheet_geometry.specs.declared.sheet_errors.SheetError.{SheetError}
+use Rattle.sheet_geometry.specs.CommonErrors.{sheet_error}
 use Rattle.sheet_files.specs.declared.planning.PlannedSheet.{PlannedSheet}
-use Rattle.sheet_files.specs.declared.stop.TrapsheetError.{TrapsheetError}
-use Rattle.sheet_files.specs.declared.stop.TrapsheetError.TheVariants.{Common, OfSheet}
+use Rattle.sheet_files.specs.declared.error.TrapsheetError.{TrapsheetError}
+use Rattle.sheet_files.specs.declared.error.TrapsheetError.TheVariants.{Common, OfSheet}
 use Rattle.sheet_files.specs.Inputs.{detailed, judged, sheet_of}
-use Rattle.sheet_files.specs.Planning.{CanPlan, CanPlanPlanes, HaveHeaders, MakesWhole, PlansParts, PlansSheet, header_of, plane_for, bare_for}
+use Rattle.sheet_files.specs.Planning.{CanPlan, CanPlanPlanes, HaveHeaders, MakesWhole, PlansParts, PlansSheet, header_of, plane_for, outline_for}
 use Rattle.sheet_files.specs.SheetFiles.{CanAssembleSheet}
 use Rattle.sheet_files.proofs.SheetLemmas.{can_cut, is_accepted, is_sheet_parts}
 use Rattle.sheet_geometry.specs.Planned.{IsPlan}
-use Rattle.sheet_geometry.specs.Bare.{IsBareSheet, IsBareParts, IsBarePlane, bare_plane, bare_sheet}
-use Rattle.sheet_geometry.proofs.BareLemmas.{law_of}
+use Rattle.sheet_geometry.specs.Outline.{IsOutlineSheet, IsOutlineParts, IsOutlinePlane, outline_plane, outline_sheet}
+use Rattle.sheet_geometry.proofs.OutlineLemmas.{law_of}
 
-plane_ok : (header : Header) → IsWithin Sheet header → IsBarePlane (plane_for header)
+plane_ok : (header : Header) → IsWithin Sheet header → IsOutlinePlane (plane_for header)
 plane_ok header is = record {
   some_width = is.width.0;
   some_height = is.height.0;
@@ -46,13 +46,13 @@ can_plan headers planes names can made = subst (λ (ps : List Plane). CanPlanPla
   some = omega (arith, length-map headers plane_for, can.some);
   few = omega (arith, length-map headers plane_for, can.few);
   named = can.named ∙ sym (length-map headers plane_for);
-  in_range = All-map IsBarePlane plane_for headers (λ k d within. plane_ok (get_or headers k d) (can.in_range k d within));
+  in_range = All-map IsOutlinePlane plane_for headers (λ k d within. plane_ok (get_or headers k d) (can.in_range k d within));
   narrow = All-map (λ (plane : Plane). plane.width ≤ 262144) plane_for headers (λ k d within. (can.in_range k d within).width.1);
   low = All-map (λ (plane : Plane). plane.height ≤ 262144) plane_for headers (λ k d within. (can.in_range k d within).height.1);
 })
 
-pub is_bare_parts : (job : Job) (planes : List Plane) (names : List (List ℕ)) → IsJob job → CanPlanPlanes planes names → IsBareParts (parts_of_planes job planes names)
-is_bare_parts job planes names is can = record {
+pub is_outline_parts : (job : Job) (planes : List Plane) (names : List (List ℕ)) → IsJob job → CanPlanPlanes planes names → IsOutlineParts (parts_of_planes job planes names)
+is_outline_parts job planes names is can = record {
   some_plates = can.some;
   few_plates = can.few;
   one_ink_each = length-map names (ink_of job.details) ∙ can.named;
@@ -77,16 +77,16 @@ pub low_is : (planes : List Plane) (names : List (List ℕ)) → CanPlanPlanes p
 low_is planes names can = (let l = can.low 0 no_plane (let some = can.some in omega arith) in omega (arith, l))
 
 -- planes of plates without their tints are those of their headers
-planes_bare : (plates : List Plate) → map bare_plane (map plane_of plates) ≡ map plane_for (map header_of plates)
-planes_bare [] = refl
-planes_bare (plate ∷ plates) = ap (λ (planes : List Plane). bare_plane (plane_of plate) ∷ planes) (planes_bare plates)
+planes_outline : (plates : List Plate) → map outline_plane (map plane_of plates) ≡ map plane_for (map header_of plates)
+planes_outline [] = refl
+planes_outline (plate ∷ plates) = ap (λ (planes : List Plane). outline_plane (plane_of plate) ∷ planes) (planes_outline plates)
 
-headers_bare : (headers : List Header) → map bare_plane (map plane_for headers) ≡ map plane_for headers
-headers_bare [] = refl
-headers_bare (header ∷ headers) = ap (λ (planes : List Plane). plane_for header ∷ planes) (headers_bare headers)
+headers_outline : (headers : List Header) → map outline_plane (map plane_for headers) ≡ map plane_for headers
+headers_outline [] = refl
+headers_outline (header ∷ headers) = ap (λ (planes : List Plane). plane_for header ∷ planes) (headers_outline headers)
 
-bare_made : (job : Job) (plates : List Plate) (headers : List Header) (names : List (List ℕ)) → map header_of plates ≡ headers → bare_sheet (assembled job plates names) ≡ bare_for job headers names
-bare_made job plates headers names same = ap (λ (planes : List Plane). parts_of_planes job planes names) (planes_bare plates ∙ ap (map plane_for) same)
+outline_made : (job : Job) (plates : List Plate) (headers : List Header) (names : List (List ℕ)) → map header_of plates ≡ headers → outline_sheet (assembled job plates names) ≡ outline_for job headers names
+outline_made job plates headers names same = ap (λ (planes : List Plane). parts_of_planes job planes names) (planes_outline plates ∙ ap (map plane_for) same)
 
 module _ (job : Job) (headers : List Header) (names : List (List ℕ)) (is : IsJob job) (can : CanPlan headers names) (none : without_details job names ≡ None) where
   can_assemble : (plates : List Plate) → HaveHeaders plates headers → CanAssembleSheet plates names
@@ -99,30 +99,30 @@ module _ (job : Job) (headers : List Header) (names : List (List ℕ)) (is : IsJ
         in_range = have.in_range;
       }
 
-  refusal_made : (plates : List Plate) → HaveHeaders plates headers → sheet_refusal (assembled job plates names) ≡ sheet_refusal (bare_for job headers names)
-  refusal_made plates have = sym (law_of (assembled job plates names)).refusal ∙ ap sheet_refusal (bare_made job plates headers names have.same)
+  error_made : (plates : List Plate) → HaveHeaders plates headers → sheet_error (assembled job plates names) ≡ sheet_error (outline_for job headers names)
+  error_made plates have = sym (law_of (assembled job plates names)).same_error ∙ ap sheet_error (outline_made job plates headers names have.same)
 
-  of_refusal : (plates : List Plate) (o : Option SheetRefusal) → sheet_refusal (assembled job plates names) ≡ o → sheet_of job plates names ≡ judged o (assembled job plates names)
-  of_refusal plates o is = ap (λ (without : Option ℕ). detailed without (assembled job plates names)) none ∙ ap (λ (p : Option SheetRefusal). judged p (assembled job plates names)) is
+  of_error : (plates : List Plate) (o : Option SheetError) → sheet_error (assembled job plates names) ≡ o → sheet_of job plates names ≡ judged o (assembled job plates names)
+  of_error plates o is = ap (λ (without : Option ℕ). detailed without (assembled job plates names)) none ∙ ap (λ (p : Option SheetError). judged p (assembled job plates names)) is
 
-  makes_whole : (plates : List Plate) → HaveHeaders plates headers → sheet_refusal (bare_for job headers names) ≡ None → MakesWhole job plates names (bare_for job headers names)
+  makes_whole : (plates : List Plate) → HaveHeaders plates headers → sheet_error (outline_for job headers names) ≡ None → MakesWhole job plates names (outline_for job headers names)
   makes_whole plates have accepted =
-      let kept = refusal_made plates have ∙ accepted in
+      let kept = error_made plates have ∙ accepted in
       record {
-        made = of_refusal plates None kept;
+        made = of_error plates None kept;
         sheet = is_accepted (assembled job plates names) (is_sheet_parts job (map plane_of plates) names is (can_cut plates (map plane_of plates) names (can_assemble plates have) refl)) kept;
-        same = bare_made job plates headers names have.same;
+        same = outline_made job plates headers names have.same;
       }
 
-  bare_again : bare_sheet (bare_for job headers names) ≡ bare_for job headers names
-  bare_again = ap (λ (planes : List Plane). parts_of_planes job planes names) (headers_bare headers)
+  outline_again : outline_sheet (outline_for job headers names) ≡ outline_for job headers names
+  outline_again = ap (λ (planes : List Plane). parts_of_planes job planes names) (headers_outline headers)
 
-  pub plans_parts : (budget : Budget) (result : Result PlannedSheet TrapsheetError) → PlansParts budget (bare_for job headers names) result → PlansSheet budget job headers names result
-  plans_parts budget result (PlansParts.planned sheet ok same bare accepted plan) =
-      PlansSheet.planned sheet ok (subst IsBareSheet (sym same) bare) (subst (λ (s : PageParts). bare_sheet s ≡ s) (sym same) bare_again) (ap sheet_refusal same ∙ accepted) (ap plates same ∙ length-map headers plane_for) (subst (λ (s : PageParts). IsPlan s budget sheet.plan) (sym same) plan)
+  pub plans_parts : (budget : Budget) (result : Result PlannedSheet TrapsheetError) → PlansParts budget (outline_for job headers names) result → PlansSheet budget job headers names result
+  plans_parts budget result (PlansParts.planned sheet ok same outline accepted plan) =
+      PlansSheet.planned sheet ok (subst IsOutlineSheet (sym same) outline) (subst (λ (s : PageParts). outline_sheet s ≡ s) (sym same) outline_again) (ap sheet_error same ∙ accepted) (ap plates same ∙ length-map headers plane_for) (subst (λ (s : PageParts). IsPlan s budget sheet.plan) (sym same) plan)
       (λ plates have. subst (λ (s : PageParts). MakesWhole job plates names s) (sym same) (makes_whole plates have accepted))
-  plans_parts budget result (PlansParts.refused refusal err fault) =
-      PlansSheet.refused (OfSheet refusal) err (λ plates have. of_refusal plates (Some refusal) (refusal_made plates have ∙ fault))
+  plans_parts budget result (PlansParts.refused common_error err fault) =
+      PlansSheet.refused (OfSheet common_error) err (λ plates have. of_error plates (Some common_error) (error_made plates have ∙ fault))
   plans_parts budget result (PlansParts.no_memory err) = PlansSheet.no_memory err
 
 -- no plate lacks its details

@@ -3,12 +3,12 @@ use Rattle.std.proofs.Common.{◌≡◌, ◌≢◌, ◌⊎◌, ℕ, zero, suc, �
 use Rattle.std.specs.Prelude.{slice_set}
 use Rattle.std.proofs.lemmas.Bool.{cases_eq, cases_lt}
 use Rattle.std.proofs.lemmas.List.{get_or-map, get_or_default, length-set, map-set, get_or-set_same, get_or-set_other}
-use Rattle.outside.specs.Causes.{AsksPrefix}
+use Rattle.outside.specs.ErrorCases.{AsksPrefix}
 use Rattle.outside.specs.Rack.{RackState, KeepsRack}
 use Rattle.outside.specs.Writing.{WritesFile}
-use Rattle.outside.specs.declared.tray.Failed.{Failed}
+use Rattle.outside.specs.declared.tray.DeviceError.{DeviceError}
 use Rattle.outside.proofs.Names.{asks_all, asks_before, asks_none_of, asks_then}
-use Rattle.outside.proofs.Steps.{kept_then, once_before, told_on}
+use Rattle.outside.proofs.Steps.{kept_then, once_before, reported_on}
 use Rattle.page_files.specs.Inputs.{name_at}
 use Rattle.page_model.specs.declared.parts.Plane.{Plane}
 use Rattle.page_model.specs.Planes.{no_plane, plane_at}
@@ -16,9 +16,9 @@ use Rattle.page_files.specs.Files.{Written}
 use Rattle.page_files.specs.Format.{encoded}
 use Rattle.page_files.specs.Writing.{BreaksAt, WritesAll}
 use Rattle.page_files.proofs.Steps.{breaks_next, wrote_more, wrote_none}
-use Rattle.refusals.specs.declared.refusal.Refusal.TheVariants.{Write}
-use Rattle.sheet_files.specs.declared.stop.TrapsheetError.{TrapsheetError}
-use Rattle.sheet_files.specs.declared.stop.TrapsheetError.TheVariants.{Common}
+use Rattle.common_errors.specs.declared.common.CommonError.TheVariants.{Write}
+use Rattle.sheet_files.specs.declared.error.TrapsheetError.{TrapsheetError}
+use Rattle.sheet_files.specs.declared.error.TrapsheetError.TheVariants.{Common}
 use Rattle.page_files.specs.Verdicts.{Targets}
 use Rattle.plate_rows.specs.Racks.{rack_at}
 use Rattle.sheet_files.specs.Racks.{BreaksSheet, HoldsPart, KeepsRacks, WritesFirst, WritesPlates, WritesSheet, plate_file, rack_files, rack_names, targets}
@@ -46,11 +46,11 @@ wrote_one w a b x now = wrote_more [] w a a b x (keeps_same a) (wrote_none [] a 
 -- What becomes of a rack that is asked for a prefix of these files.
 pub record RackKept (names : List (List ℕ)) (a b : RackState) : Type 0 where
   pub keeps : KeepsRack a b
-  pub told : IsTrue a.tells → b.told ≡ a.told
+  pub reported : IsTrue a.tells → b.reported ≡ a.reported
   pub asked : AsksPrefix a.asked b.asked names
 
 kept_none : (names : List (List ℕ)) (a : RackState) → RackKept names a a
-kept_none names a = record { keeps = keeps_same a; told = λ tells. refl; asked = asks_none_of a.asked names }
+kept_none names a = record { keeps = keeps_same a; reported = λ tells. refl; asked = asks_none_of a.asked names }
 
 pub kept_is : (names : List (List ℕ)) (a b : RackState) → b ≡ a → RackKept names a b
 kept_is names a b same = subst (λ (r : RackState). RackKept names a r) (sym same) (kept_none names a)
@@ -58,7 +58,7 @@ kept_is names a b same = subst (λ (r : RackState). RackKept names a r) (sym sam
 pub kept_file : {T E : Type 0} (name bytes : List ℕ) (rest : List (List ℕ)) (a b : RackState) (result : Result T E) → WritesFile name bytes a b result → RackKept (name ∷ rest) a b
 kept_file name bytes rest a b result now = record {
   keeps = now.keeps;
-  told = now.told;
+  reported = now.reported;
   asked = asks_before a.asked b.asked (name ∷ []) rest now.asked;
 }
 
@@ -66,7 +66,7 @@ kept_file name bytes rest a b result now = record {
 kept_two : {T U E D : Type 0} (name bytes last text : List ℕ) (a b c : RackState) (one : Result T E) (two : Result U D) → WritesFile name bytes a b one → WritesFile last text b c two → RackKept (name ∷ last ∷ []) a c
 kept_two name bytes last text a b c one two first now = record {
   keeps = kept_then a b c first.keeps now.keeps;
-  told = λ tells. now.told (told_on a b first.keeps tells) ∙ first.told tells;
+  reported = λ tells. now.reported (reported_on a b first.keeps tells) ∙ first.reported tells;
   asked = asks_all a.asked c.asked (name ∷ last ∷ []) (asks_then a.asked b.asked c.asked (name ∷ []) (last ∷ []) first.asked now.asked);
 }
 
@@ -76,7 +76,7 @@ none_first outputs planes a = record { each = λ k less. absurd (omega arith); o
 -- one plane more
 module _ (outputs : List (List ℕ)) (planes : List Plane) (k : ℕ) (a b c : List RackState) (before : WritesFirst outputs planes k a b) (others : (j : ℕ) → j ≢ k → rack_at c j ≡ rack_at b j) where
   abbrev Wrote : ℕ → RackState → RackState → Type 0
-  Wrote j r s = WritesFile {T = Unit {0}} {E = Failed} (name_at outputs j) (encoded (plane_at planes j)) r s (Ok tt)
+  Wrote j r s = WritesFile {T = Unit {0}} {E = DeviceError} (name_at outputs j) (encoded (plane_at planes j)) r s (Ok tt)
 
   more_at : Wrote k (rack_at b k) (rack_at c k) → (j : ℕ) → j < k + 1 → Wrote j (rack_at a j) (rack_at c j)
   more_at here j less = elim (cases_eq j k) [
@@ -106,7 +106,7 @@ module _ (outputs : List (List ℕ)) (report : List ℕ) (planes : List Plane) (
   whole k less = wrote_one (plate_file (targets outputs report) planes k) (rack_at a k) (rack_at b k) tt (first.each k less)
 
   -- The write of the next plane fails.
-  module _ (c : List RackState) (failed : Failed) (known : count < length outputs) (now : WritesFile {T = Unit {0}} (name_at outputs count) (encoded (plane_at planes count)) (rack_at b count) (rack_at c count) (Err failed)) (others : (j : ℕ) → j ≢ count → rack_at c j ≡ rack_at b j) where
+  module _ (c : List RackState) (failed : DeviceError) (known : count < length outputs) (now : WritesFile {T = Unit {0}} (name_at outputs count) (encoded (plane_at planes count)) (rack_at b count) (rack_at c count) (Err failed)) (others : (j : ℕ) → j ≢ count → rack_at c j ≡ rack_at b j) where
     now_from : WritesFile {T = Unit {0}} (name_at outputs count) (encoded (plane_at planes count)) (rack_at a count) (rack_at c count) (Err failed)
     now_from = subst (λ (r : RackState). WritesFile {T = Unit {0}} (name_at outputs count) (encoded (plane_at planes count)) r (rack_at c count) (Err failed)) (first.others count (omega arith)) now
 
@@ -136,7 +136,7 @@ module _ (outputs : List (List ℕ)) (report : List ℕ) (planes : List Plane) (
     pub broke_keeps : KeepsRacks (targets outputs report) a c
     broke_keeps = record {
       keeps = λ k. (each_kept k).keeps;
-      told = λ k. (each_kept k).told;
+      reported = λ k. (each_kept k).reported;
       asked = λ k. (each_kept k).asked;
       beyond = λ k more. (let other : k ≢ count = omega arith in others k other ∙ first.others k (omega arith));
     }
@@ -150,7 +150,7 @@ module _ (outputs : List (List ℕ)) (report : List ℕ) (planes : List Plane) (
   pub all_keeps : {T E : Type 0} (result : Result T E) → WritesFile report text (rack_at b 0) (rack_at c 0) result → KeepsRacks (targets outputs report) a c
   all_keeps result now = record {
     keeps = λ k. (all_kept result now k).keeps;
-    told = λ k. (all_kept result now k).told;
+    reported = λ k. (all_kept result now k).reported;
     asked = λ k. (all_kept result now k).asked;
     beyond = λ k more. (let other : k ≢ 0 = omega arith in others k other ∙ first.others k more);
   }
@@ -181,32 +181,32 @@ module _ (outputs : List (List ℕ)) (report : List ℕ) (planes : List Plane) (
 
 -- The planes and then the report are written, or the report breaks.
 module _ (outputs : List (List ℕ)) (report : List ℕ) (planes : List Plane) (text : List ℕ) (a b c : List RackState) (some : 1 ≤ length outputs) where
-  pub sheet_wrote : WritesPlates outputs planes a b (Ok tt) → WritesFile {T = Unit {0}} {E = Failed} report text (rack_at b 0) (rack_at c 0) (Ok tt) → ((j : ℕ) → j ≢ 0 → rack_at c j ≡ rack_at b j) → WritesSheet (targets outputs report) planes text a c (Ok tt)
+  pub sheet_wrote : WritesPlates outputs planes a b (Ok tt) → WritesFile {T = Unit {0}} {E = DeviceError} report text (rack_at b 0) (rack_at c 0) (Ok tt) → ((j : ℕ) → j ≢ 0 → rack_at c j ≡ rack_at b j) → WritesSheet (targets outputs report) planes text a c (Ok tt)
   sheet_wrote (WritesPlates.wrote is first) now others = WritesSheet.wrote refl (all_wrote outputs report planes text a b c some first others tt now) (all_keeps outputs report planes text a b c some first others (Ok tt) now)
   sheet_wrote (WritesPlates.broke k between failed is known first at rest) now others = absurd (cc)
 
-  pub report_failed : (failed : Failed) → WritesPlates outputs planes a b (Ok tt) → WritesFile {T = Unit {0}} report text (rack_at b 0) (rack_at c 0) (Err failed) → ((j : ℕ) → j ≢ 0 → rack_at c j ≡ rack_at b j) → WritesSheet (targets outputs report) planes text a c (Err (Common (Write None)))
+  pub report_failed : (failed : DeviceError) → WritesPlates outputs planes a b (Ok tt) → WritesFile {T = Unit {0}} report text (rack_at b 0) (rack_at c 0) (Err failed) → ((j : ℕ) → j ≢ 0 → rack_at c j ≡ rack_at b j) → WritesSheet (targets outputs report) planes text a c (Err (Common (Write None)))
   report_failed failed (WritesPlates.wrote is first) now others = WritesSheet.broke None refl (report_broke outputs report planes text a b c some first others failed now) (all_keeps outputs report planes text a b c some first others (Err failed) now)
   report_failed failed (WritesPlates.broke k between e is known first at rest) now others = absurd (cc)
 
 -- A plane could not be written.
-pub plates_failed : (outputs : List (List ℕ)) (report : List ℕ) (planes : List Plane) (text : List ℕ) (a b : List RackState) (stop : TrapsheetError) → WritesPlates outputs planes a b (Err stop) → WritesSheet (targets outputs report) planes text a b (Err stop)
-plates_failed outputs report planes text a b stop (WritesPlates.wrote is first) = absurd (cc)
-plates_failed outputs report planes text a b stop (WritesPlates.broke k between failed is known first at rest) =
-    let same : stop ≡ Common (Write (Some k)) = cc in
+pub plates_failed : (outputs : List (List ℕ)) (report : List ℕ) (planes : List Plane) (text : List ℕ) (a b : List RackState) (error : TrapsheetError) → WritesPlates outputs planes a b (Err error) → WritesSheet (targets outputs report) planes text a b (Err error)
+plates_failed outputs report planes text a b error (WritesPlates.wrote is first) = absurd (cc)
+plates_failed outputs report planes text a b error (WritesPlates.broke k between failed is known first at rest) =
+    let same : error ≡ Common (Write (Some k)) = cc in
     WritesSheet.broke (Some k) (ap (λ (s : TrapsheetError). Err s) same) (plate_broke outputs report planes text k a between first b failed known at rest) (broke_keeps outputs report planes text k a between first b failed known at rest)
 
 -- the step at a file, seen by the list of the files' names
 pub at_output : {X T E : Type 0} (text : X → List ℕ) (names : List X) (planes : List Plane) (k : ℕ) (d : X) (e : Plane) (a b : RackState) (result : Result T E) → k < length names → k < length planes → WritesFile (text (get_or names k d)) (encoded (get_or planes k e)) a b result → WritesFile (name_at (map text names) k) (encoded (plane_at planes k)) a b result
-at_output text names planes k d e a b result within held now =
+at_output text names planes k d e a b result within stored now =
     subst (λ (name : List ℕ). WritesFile name (encoded (plane_at planes k)) a b result) (sym (get_or-map text names k d [] within))
-    (subst (λ (p : Plane). WritesFile (text (get_or names k d)) (encoded p) a b result) (get_or_default planes k e no_plane held) now)
+    (subst (λ (p : Plane). WritesFile (text (get_or names k d)) (encoded p) a b result) (get_or_default planes k e no_plane stored) now)
 
 -- racks that are as they were
 pub racks_same : (target : Targets) (a : List RackState) → KeepsRacks target a a
 racks_same target a = record {
   keeps = λ k. keeps_same (rack_at a k);
-  told = λ k tells. refl;
+  reported = λ k tells. refl;
   asked = λ k. asks_none_of (rack_at a k).asked (rack_names target k);
   beyond = λ k more. refl;
 }

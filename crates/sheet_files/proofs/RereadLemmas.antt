@@ -20,10 +20,10 @@ use Rattle.pgm_plates.specs.Laws.{IsTopOf, TopOfFileWithin}
 use Rattle.pgm_plates.specs.Planes.{plane_of}
 use Rattle.plate_rows.specs.Trays.{open_at}
 use Rattle.sheet_geometry.specs.declared.budget.Budget.{Budget}
-use Rattle.sheet_geometry.specs.declared.refusal.SheetRefusal.{SheetRefusal}
-use Rattle.sheet_geometry.specs.Refusals.{sheet_refusal}
+use Rattle.sheet_geometry.specs.declared.sheet_errors.SheetError.{SheetError}
+use Rattle.sheet_geometry.specs.CommonErrors.{sheet_error}
 use Rattle.sheet_geometry.specs.Begun.{BeginsWith, MayBegin}
-use Rattle.sheet_geometry.proofs.BareLemmas.{law_of, plates_is}
+use Rattle.sheet_geometry.proofs.OutlineLemmas.{law_of, plates_is}
 use Rattle.sheet_geometry.proofs.BegunLemmas.{some_sheet}
 use Rattle.sheet_files.specs.declared.planning.PlannedSheet.{PlannedSheet}
 use Rattle.sheet_files.specs.Gathering.{IsMadeSheet, TakesTrays}
@@ -49,48 +49,48 @@ all_or_one (suc n) trays = elim (all_or_one n trays) [
 ]
 
 -- a sheet that is made of plates is the one that they are put together to
-judged_same : (o : Option SheetRefusal) (parts sheet : PageParts) → judged_of o parts ≡ Ok sheet → sheet ≡ parts
+judged_same : (o : Option SheetError) (parts sheet : PageParts) → judged_of o parts ≡ Ok sheet → sheet ≡ parts
 judged_same None parts sheet is = cc
-judged_same (Some refusal) parts sheet is = absurd (cc)
+judged_same (Some common_error) parts sheet is = absurd (cc)
 
 detailed_same : (o : Option ℕ) (parts sheet : PageParts) → detailed o parts ≡ Ok sheet → sheet ≡ parts
-detailed_same None parts sheet is = judged_same (sheet_refusal parts) parts sheet is
+detailed_same None parts sheet is = judged_same (sheet_error parts) parts sheet is
 detailed_same (Some plate) parts sheet is = absurd (cc)
 
 made_same : (job : Job) (read : List PlateRead) (names : List (List ℕ)) (sheet : PageParts) → sheet_of job read names ≡ Ok sheet → sheet ≡ assembled job read names
 made_same job read names sheet is = detailed_same (without_details job names) (assembled job read names) sheet is
 
-module _ (top : TopOfFileWithin Sheet) (source : Sources) (budget : Budget) (judged : PlannedSheet) (begun : List OpenPlate) (samples : ℕ → List ℕ) (a b c : List TrayState) (takes : TakesTrays source a b) (is : IsJudged source budget a judged) (reread : IsReread source judged.bare begun samples b c) where
-  abbrev bare : PageParts
-  bare = judged.bare
+module _ (top : TopOfFileWithin Sheet) (source : Sources) (budget : Budget) (judged : PlannedSheet) (begun : List OpenPlate) (samples : ℕ → List ℕ) (a b c : List TrayState) (takes : TakesTrays source a b) (is : IsJudged source budget a judged) (reread : IsReread source judged.outline begun samples b c) where
+  abbrev outline : PageParts
+  outline = judged.outline
 
-  count : plates bare ≡ length source.inputs
+  count : plates outline ≡ length source.inputs
   count = sym (ap plates is.same) ∙ plates_is is.sheet ∙ is.made.count
 
-  tints_few : (k : ℕ) → k < plates bare → length (tints_read bare samples k) ≤ width bare * height bare
+  tints_few : (k : ℕ) → k < plates outline → length (tints_read outline samples k) ≤ width outline * height outline
   tints_few k l =
       let here : k < length source.inputs = omega (arith, l, count) in
       let few = (reread.read.each k here).few in
       let header = reread.headers k here in
-      let m = length-map (samples k) (λ (v : ℕ). maxval bare - v) in
+      let m = length-map (samples k) (λ (v : ℕ). maxval outline - v) in
       let wide = ap (λ (h : Header). h.width * h.height) header in
       omega (arith, few, m, wide)
 
-  tints_below : (k : ℕ) → k < plates bare → All (λ tint. tint ≤ maxval bare) (tints_read bare samples k)
-  tints_below k l = All-map (λ (tint : ℕ). tint ≤ maxval bare) (λ (v : ℕ). maxval bare - v) (samples k) (λ j d within. omega arith)
+  tints_below : (k : ℕ) → k < plates outline → All (λ tint. tint ≤ maxval outline) (tints_read outline samples k)
+  tints_below k l = All-map (λ (tint : ℕ). tint ≤ maxval outline) (λ (v : ℕ). maxval outline - v) (samples k) (λ j d within. omega arith)
 
-  may : MayBegin bare (tints_read bare samples)
+  may : MayBegin outline (tints_read outline samples)
   may = record { few = tints_few; below = tints_below }
 
   -- where a tray does not tell, some sheet begins so
-  untold : (k : ℕ) → k < length source.inputs → (IsTrue (tray_at a k).tells → ⊥) → (sheet : PageParts) × IsMadeSheet source a sheet × BeginsWith bare (tints_read bare samples) sheet
+  untold : (k : ℕ) → k < length source.inputs → (IsTrue (tray_at a k).tells → ⊥) → (sheet : PageParts) × IsMadeSheet source a sheet × BeginsWith outline (tints_read outline samples) sheet
   untold k less silent =
-      let some = some_sheet bare (tints_read bare samples) is.valid is.blank may in
+      let some = some_sheet outline (tints_read outline samples) is.valid is.blank may in
       let begins = some.1 in (
         some.0,
         record {
           valid = begins.valid;
-          accepted = sym (law_of some.0).refusal ∙ ap sheet_refusal begins.same ∙ is.accepted;
+          accepted = sym (law_of some.0).same_error ∙ ap sheet_error begins.same ∙ is.accepted;
           count = sym (plates_is some.0) ∙ ap plates begins.same ∙ count;
           made = λ tells. absurd (silent (tells k less));
         },
@@ -99,20 +99,20 @@ module _ (top : TopOfFileWithin Sheet) (source : Sources) (budget : Budget) (jud
 
   -- what was read again of a plate whose file is told is its top
   plate_top : (k : ℕ) (read : PlateRead) → k < length source.inputs → IsTrue (tray_at a k).tells → Spells (plates_by a source.inputs k) (λ bytes. IsSheetFile bytes read) → IsTopOf read (open_at begun k).header (samples k)
-  plate_top k read less tells held =
-      top (name_at source.inputs k) (tray_at b k) (tray_at c k) (open_at begun k) (samples k) held.0 read (reread.read.each k less) ((takes.keeps k).tells ∙ tells)
-      (ap (λ (files : List ℕ → Option (List ℕ)). files (name_at source.inputs k)) (takes.keeps k).file ∙ held.1) held.2
+  plate_top k read less tells stored =
+      top (name_at source.inputs k) (tray_at b k) (tray_at c k) (open_at begun k) (samples k) stored.0 read (reread.read.each k less) ((takes.keeps k).tells ∙ tells)
+      (ap (λ (files : List ℕ → Option (List ℕ)). files (name_at source.inputs k)) (takes.keeps k).file ∙ stored.1) stored.2
 
   -- the tints of a plate begin with those of its top
-  tints_top : (read : PlateRead) (k : ℕ) → IsTopOf read (open_at begun k).header (samples k) → read.maxval ≡ maxval bare → (plane_of read).tints ≡ tints_read bare samples k ++ map (λ (v : ℕ). maxval bare - v) (drop (length (samples k)) read.samples)
+  tints_top : (read : PlateRead) (k : ℕ) → IsTopOf read (open_at begun k).header (samples k) → read.maxval ≡ maxval outline → (plane_of read).tints ≡ tints_read outline samples k ++ map (λ (v : ℕ). maxval outline - v) (drop (length (samples k)) read.samples)
   tints_top read k is_top deep =
       ap (λ (m : ℕ). map (λ (v : ℕ). m - v) read.samples) deep
-      ∙ ap (map (λ (v : ℕ). maxval bare - v)) (sym (take-append-drop (length (samples k)) read.samples))
-      ∙ map-append (λ (v : ℕ). maxval bare - v) (take (length (samples k)) read.samples) (drop (length (samples k)) read.samples)
-      ∙ ap (λ (ss : List ℕ). map (λ (v : ℕ). maxval bare - v) ss ++ map (λ (v : ℕ). maxval bare - v) (drop (length (samples k)) read.samples)) (sym is_top.first)
+      ∙ ap (map (λ (v : ℕ). maxval outline - v)) (sym (take-append-drop (length (samples k)) read.samples))
+      ∙ map-append (λ (v : ℕ). maxval outline - v) (take (length (samples k)) read.samples) (drop (length (samples k)) read.samples)
+      ∙ ap (λ (ss : List ℕ). map (λ (v : ℕ). maxval outline - v) ss ++ map (λ (v : ℕ). maxval outline - v) (drop (length (samples k)) read.samples)) (sym is_top.first)
 
-  told : AllTell (length source.inputs) a → BeginsWith bare (tints_read bare samples) is.sheet
-  told tells =
+  reported : AllTell (length source.inputs) a → BeginsWith outline (tints_read outline samples) is.sheet
+  reported tells =
       let makes = is.made.made tells in
       let job = makes.0 in
       let read = makes.1 in
@@ -123,15 +123,15 @@ module _ (top : TopOfFileWithin Sheet) (source : Sources) (budget : Budget) (jud
         same = is.same;
         each = λ k l. (let here : k < length source.inputs = omega (arith, l, count) in
             let of_read : k < length read = (let n = ap plates same in let m = length-map read plane_of in let p = is.made.count in omega (arith, here, n, m, p)) in
-            let held = inputs.plates_read.each k (let all = inputs.plates_read.all in omega (arith, of_read, all)) in
-            let is_top = plate_top k (plate_at read k) here (tells k here) held in
-            let deep : (plate_at read k).maxval ≡ maxval bare = sym is_top.maxval ∙ ap (λ (h : Header). h.maxval) (reread.headers k here) in
+            let stored = inputs.plates_read.each k (let all = inputs.plates_read.all in omega (arith, of_read, all)) in
+            let is_top = plate_top k (plate_at read k) here (tells k here) stored in
+            let deep : (plate_at read k).maxval ≡ maxval outline = sym is_top.maxval ∙ ap (λ (h : Header). h.maxval) (reread.headers k here) in
             let plane : plane_at is.sheet.planes k ≡ plane_of (plate_at read k) = ap (λ (s : PageParts). plane_at s.planes k) same ∙ get_or-map plane_of read k no_plate no_plane of_read in
-            (map (λ (v : ℕ). maxval bare - v) (drop (length (samples k)) (plate_at read k).samples), ap (λ (p : Plane). p.tints) plane ∙ tints_top (plate_at read k) k is_top deep));
+            (map (λ (v : ℕ). maxval outline - v) (drop (length (samples k)) (plate_at read k).samples), ap (λ (p : Plane). p.tints) plane ∙ tints_top (plate_at read k) k is_top deep));
       }
 
-  pub reread_of : (sheet : PageParts) × IsMadeSheet source a sheet × BeginsWith bare (tints_read bare samples) sheet
+  pub reread_of : (sheet : PageParts) × IsMadeSheet source a sheet × BeginsWith outline (tints_read outline samples) sheet
   reread_of = elim (all_or_one (length source.inputs) a) [
-    | inl tells ↦ (is.sheet, is.made, told tells)
+    | inl tells ↦ (is.sheet, is.made, reported tells)
     | inr one ↦ untold one.0 one.1 one.2
   ]

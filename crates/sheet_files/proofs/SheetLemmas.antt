@@ -17,9 +17,9 @@ use Rattle.pgm_plates.specs.declared.bounds.Bounds.TheVariants.{Sheet}
 use Rattle.pgm_plates.specs.declared.plate.Plate.{Plate}
 use Rattle.pgm_plates.specs.Planes.{IsPlaneWithin, plane_of}
 use Rattle.pgm_plates.proofs.Turned.{plane_within}
-use Rattle.sheet_geometry.specs.declared.refusal.SheetRefusal.{SheetRefusal}
-use Rattle.sheet_geometry.specs.declared.refusal.SheetRefusal.TheVariants.{Fault}
-use Rattle.sheet_geometry.specs.Refusals.{large_fault, parts_fault, sheet_refusal}
+use Rattle.sheet_geometry.specs.declared.sheet_errors.SheetError.{SheetError}
+use Rattle.sheet_geometry.specs.declared.sheet_errors.SheetError.TheVariants.{Fault}
+use Rattle.sheet_geometry.specs.CommonErrors.{large_fault, parts_fault, sheet_error}
 use Rattle.sheet_geometry.proofs.FaultLemmas.{sheet_from}
 use Rattle.sheet_geometry.specs.Sheets.{IsSheet, IsSheetParts, IsSheetPlane}
 use Rattle.sheet_files.specs.SheetFiles.{CanAssembleSheet, CanCutPlanes}
@@ -63,9 +63,9 @@ can_cut plates planes names can made = subst (λ (ps : List Plane). CanCutPlanes
 
 no_fault : (o : Option PageFault) → option_map Fault o ≡ None → o ≡ None
 no_fault None none = refl
-no_fault (Some fault) none = absurd (let e : ◌≡◌ {A = Option SheetRefusal} (Some (Fault fault)) None = none in cc)
+no_fault (Some fault) none = absurd (let e : ◌≡◌ {A = Option SheetError} (Some (Fault fault)) None = none in cc)
 
 -- parts that are not refused are a sheet
-pub is_accepted : (sheet : PageParts) → IsSheetParts sheet → sheet_refusal sheet ≡ None → IsSheet sheet
+pub is_accepted : (sheet : PageParts) → IsSheetParts sheet → sheet_error sheet ≡ None → IsSheet sheet
 is_accepted sheet parts accepted =
     sheet_from sheet parts (no_fault (parts_fault sheet) (both_none (option_map Fault (parts_fault sheet)) (large_fault sheet) accepted).0)

@@ -3,7 +3,7 @@ use Rattle.std.specs.Prelude.{◌≡◌, ◌≢◌, ◌⊎◌, ℕ, zero, suc, �
 use Rattle.std.specs.Prelude.{Option, Some, None, Ok, Err}
 use Rattle.job_reader.specs.declared.job.Job.{Job}
 use Rattle.job_reader.specs.Jobs.{job_of}
-use Rattle.outside.specs.Causes.{Rose, Asks, AsksPrefix}
+use Rattle.outside.specs.ErrorCases.{Rose, Asks, AsksPrefix}
 use Rattle.outside.specs.Tray.{TrayState, KeepsTray}
 use Rattle.page_files.specs.Inputs.{Sources, name_at}
 use Rattle.page_files.specs.Looks.{IsLast}
@@ -11,19 +11,19 @@ use Rattle.page_files.specs.Steps.{TakesJob, TakesPlate}
 use Rattle.page_model.specs.declared.parts.PageParts.{PageParts}
 use Rattle.page_model.specs.Page.{plates}
 use Rattle.pgm_plates.specs.declared.plate.Plate.{Plate as PlateRead}
-use Rattle.pgm_plates.specs.declared.plate.PlateRefusal.TheVariants.{Fault}
+use Rattle.pgm_plates.specs.declared.plate.PlateError.TheVariants.{Fault}
 use Rattle.pgm_plates.specs.Reading.{KeepsCount}
-use Rattle.refusals.specs.declared.refusal.Refusal.TheVariants.{Job as JobFails, NoDetails}
-use Rattle.refusals.specs.declared.refusal.Refusal.TheVariants.{Plate, Read}
-use Rattle.sheet_geometry.specs.Refusals.{sheet_refusal}
+use Rattle.common_errors.specs.declared.common.CommonError.TheVariants.{Job as JobFails, NoDetails}
+use Rattle.common_errors.specs.declared.common.CommonError.TheVariants.{Plate, Read}
+use Rattle.sheet_geometry.specs.CommonErrors.{sheet_error}
 use Rattle.sheet_geometry.specs.Sheets.{IsSheet}
-use Rattle.sheet_files.specs.Inputs.{AreSpelled, MakesSheet, Spells, held_by, plates_by}
+use Rattle.sheet_files.specs.Inputs.{AreSpelled, MakesSheet, Spells, stored_by, plates_by}
 use Rattle.sheet_files.specs.Steps.{IsFaultless}
 use Rattle.plate_rows.specs.Trays.{IsCalm, tray_at}
 use Rattle.sheet_files.specs.Trays.{AllTell, files_twice, tray_files}
 use Rattle.sheet_files.specs.Verdicts.{IsSheetVerdict, Refused}
-use Rattle.sheet_files.specs.declared.stop.TrapsheetError.{TrapsheetError}
-use Rattle.sheet_files.specs.declared.stop.TrapsheetError.TheVariants.{Changed, Common, OfSheet}
+use Rattle.sheet_files.specs.declared.error.TrapsheetError.{TrapsheetError}
+use Rattle.sheet_files.specs.declared.error.TrapsheetError.TheVariants.{Changed, Common, OfSheet}
 
 -- The plate of that name was opened last, and no more was taken of it than is owed.
 abbrev pub HasPlate : List ℕ → TrayState → TrayState → Type 0
@@ -90,17 +90,17 @@ IsOfInput (Common (JobFails fault)) = Unit {0}
 IsOfInput (Common (NoDetails plate)) = Unit {0}
 IsOfInput (Common (Plate plate fault)) = Unit {0}
 IsOfInput (Common other) = ⊥
-IsOfInput (OfSheet refusal) = Unit {0}
+IsOfInput (OfSheet common_error) = Unit {0}
 IsOfInput (Changed plate) = ⊥
 
 -- The files are refused.
 pub record RefusesFiles (source : Sources) (before after : List TrayState)
-    (stop : TrapsheetError) : Type 0 where
-  pub of_input : IsOfInput stop
+    (error : TrapsheetError) : Type 0 where
+  pub of_input : IsOfInput error
   pub verdict : AllTell (length source.inputs) before
-      → IsSheetVerdict (held_by before source) source.names (Refused stop)
-  pub begun : AsksTo source stop before after
-  pub count : CalmTo stop before after
+      → IsSheetVerdict (stored_by before source) source.names (Refused error)
+  pub begun : AsksTo source error before after
+  pub count : CalmTo error before after
 
 -- the tray of a file that is read: that of the plate, or the first one for the job
 abbrev pub tray_of : Option ℕ → ℕ
@@ -139,10 +139,10 @@ pub record FailsToRead (source : Sources) (before after : List TrayState)
 pub record IsMadeSheet (source : Sources) (trays : List TrayState)
     (sheet : PageParts) : Type 0 where
   pub valid : IsSheet sheet
-  pub accepted : sheet_refusal sheet ≡ None
+  pub accepted : sheet_error sheet ≡ None
   pub count : plates sheet ≡ length source.inputs
   pub made : AllTell (length source.inputs) trays
-      → MakesSheet (held_by trays source) source.names (Ok sheet)
+      → MakesSheet (stored_by trays source) source.names (Ok sheet)
 
 -- The same of trays whose plates may be read twice.
 pub record TakesTwice (source : Sources) (before after : List TrayState) : Type 0 where

@@ -8,16 +8,16 @@ use Rattle.page_files.specs.Inputs.{Sources, name_at, plate_at}
 use Rattle.page_model.specs.declared.parts.PageParts.{PageParts}
 use Rattle.pgm_plates.specs.declared.plate.Plate.{Plate}
 use Rattle.pgm_plates.specs.declared.plate.PlateFault.{PlateFault}
-use Rattle.refusals.specs.declared.refusal.Refusal.TheVariants.{NoDetails}
-use Rattle.sheet_geometry.specs.Refusals.{sheet_refusal}
-use Rattle.sheet_geometry.specs.declared.refusal.SheetRefusal.{SheetRefusal}
+use Rattle.common_errors.specs.declared.common.CommonError.TheVariants.{NoDetails}
+use Rattle.sheet_geometry.specs.CommonErrors.{sheet_error}
+use Rattle.sheet_geometry.specs.declared.sheet_errors.SheetError.{SheetError}
 use Rattle.sheet_files.specs.SheetFiles.{IsSheetFault, IsSheetFile}
 use Rattle.plate_rows.specs.Trays.{tray_at}
-use Rattle.sheet_files.specs.declared.stop.TrapsheetError.{TrapsheetError}
-use Rattle.sheet_files.specs.declared.stop.TrapsheetError.TheVariants.{Common, OfSheet}
+use Rattle.sheet_files.specs.declared.error.TrapsheetError.{TrapsheetError}
+use Rattle.sheet_files.specs.declared.error.TrapsheetError.TheVariants.{Common, OfSheet}
 
 -- the bytes of the job's file and of the file of each plate, where there is one
-pub record HeldBytes : Type 0 where
+pub record StoredBytes : Type 0 where
   pub job : Option (List ℕ)
   pub plate : ℕ → Option (List ℕ)
 
@@ -26,46 +26,46 @@ abbrev pub plates_by : List TrayState → List (List ℕ) → ℕ → Option (Li
 plates_by trays names k = (tray_at trays k).file (name_at names k)
 
 -- what the trays tell of the files that they read
-abbrev pub held_by : List TrayState → Sources → HeldBytes
-held_by trays source = record {
+abbrev pub stored_by : List TrayState → Sources → StoredBytes
+stored_by trays source = record {
   job = (tray_at trays 0).file source.job;
   plate = plates_by trays source.inputs;
 }
 
 -- There is such a file, and of its bytes this is so.
 abbrev pub Spells : Option (List ℕ) → (List ℕ → Type 0) → Type 0
-Spells held Fact = (bytes : List ℕ) × (held ≡ Some bytes) × Fact bytes
+Spells stored Fact = (bytes : List ℕ) × (stored ≡ Some bytes) × Fact bytes
 
 -- the files of the first `count` plates encode these
-pub record AreSpelled (held : ℕ → Option (List ℕ)) (count : ℕ)
+pub record AreSpelled (stored : ℕ → Option (List ℕ)) (count : ℕ)
     (plates : List Plate) : Type 0 where
   pub all : length plates ≡ count
   pub each : (k : ℕ) → k < count
-      → Spells (held k) (λ bytes. IsSheetFile bytes (plate_at plates k))
+      → Spells (stored k) (λ bytes. IsSheetFile bytes (plate_at plates k))
 
 -- The job and `count` plates are read.
-pub record SheetInputs (held : HeldBytes) (count : ℕ) (job : Job)
+pub record SheetInputs (stored : StoredBytes) (count : ℕ) (job : Job)
     (plates : List Plate) : Type 0 where
-  pub job_read : Spells held.job (λ bytes. job_of bytes ≡ Ok job)
-  pub plates_read : AreSpelled held.plate count plates
+  pub job_read : Spells stored.job (λ bytes. job_of bytes ≡ Ok job)
+  pub plates_read : AreSpelled stored.plate count plates
 
 -- Of `count` plates this one has that fault; the job and the plates before it are read.
-pub record PlateFails (held : HeldBytes) (count plate : ℕ) (fault : PlateFault) : Type 0 where
+pub record PlateFails (stored : StoredBytes) (count plate : ℕ) (fault : PlateFault) : Type 0 where
   pub job : Job
   pub plates : List Plate
-  pub job_read : Spells held.job (λ bytes. job_of bytes ≡ Ok job)
-  pub before : AreSpelled held.plate plate plates
+  pub job_read : Spells stored.job (λ bytes. job_of bytes ≡ Ok job)
+  pub before : AreSpelled stored.plate plate plates
   pub known : plate < count
-  pub broken : Spells (held.plate plate) (λ bytes. IsSheetFault bytes fault)
+  pub broken : Spells (stored.plate plate) (λ bytes. IsSheetFault bytes fault)
 
 -- the sheet of these parts, or why it is refused
-abbrev pub judged : Option SheetRefusal → PageParts → Result PageParts TrapsheetError
+abbrev pub judged : Option SheetError → PageParts → Result PageParts TrapsheetError
 judged None sheet = Ok sheet
-judged (Some refusal) sheet = Err (OfSheet refusal)
+judged (Some common_error) sheet = Err (OfSheet common_error)
 
 -- the same, where no plate lacks its details
 abbrev pub detailed : Option ℕ → PageParts → Result PageParts TrapsheetError
-detailed None sheet = judged (sheet_refusal sheet) sheet
+detailed None sheet = judged (sheet_error sheet) sheet
 detailed (Some plate) sheet = Err (Common (NoDetails plate))
 
 -- the sheet of a job and plates, or why there is none: a plate without details, and then the first
@@ -73,7 +73,7 @@ detailed (Some plate) sheet = Err (Common (NoDetails plate))
 abbrev pub sheet_of : Job → List Plate → List (List ℕ) → Result PageParts TrapsheetError
 sheet_of job plates names = detailed (without_details job names) (assembled job plates names)
 
--- what the job and the plates of these colorants make: a sheet, or its refusal
-abbrev pub MakesSheet : HeldBytes → List (List ℕ) → Result PageParts TrapsheetError → Type 0
-MakesSheet held names made = (job : Job) × (plates : List Plate)
-    × SheetInputs held (length names) job plates × (sheet_of job plates names ≡ made)
+-- what the job and the plates of these colorants make: a sheet, or its error
+abbrev pub MakesSheet : StoredBytes → List (List ℕ) → Result PageParts TrapsheetError → Type 0
+MakesSheet stored names made = (job : Job) × (plates : List Plate)
+    × SheetInputs stored (length names) job plates × (sheet_of job plates names ≡ made)

@@ -7,12 +7,12 @@ use Rattle.page_model.specs.declared.parts.PageParts.{PageParts}
 use Rattle.page_model.specs.Page.{height, maxval, width}
 use Rattle.pgm_plates.specs.declared.header.Header.{Header}
 use Rattle.pgm_plates.specs.declared.plate.Plate.{Plate as PlateRead}
-use Rattle.refusals.specs.declared.refusal.Refusal.TheVariants.{Memory, Read}
+use Rattle.common_errors.specs.declared.common.CommonError.TheVariants.{Memory, Read}
 use Rattle.sheet_geometry.specs.declared.budget.Budget.{Budget}
-use Rattle.sheet_geometry.specs.Refusals.{sheet_refusal}
+use Rattle.sheet_geometry.specs.CommonErrors.{sheet_error}
 use Rattle.sheet_files.specs.declared.planning.PlannedSheet.{PlannedSheet}
-use Rattle.sheet_files.specs.declared.stop.TrapsheetError.{TrapsheetError}
-use Rattle.sheet_files.specs.declared.stop.TrapsheetError.TheVariants.{Common}
+use Rattle.sheet_files.specs.declared.error.TrapsheetError.{TrapsheetError}
+use Rattle.sheet_files.specs.declared.error.TrapsheetError.TheVariants.{Common}
 use Rattle.sheet_files.specs.Gathering.{AsksAll, FailsToRead, IsMadeSheet, RefusesFiles}
 use Rattle.sheet_files.specs.Gathering.{TakesTrays}
 use Rattle.sheet_files.specs.Inputs.{Spells, plates_by}
@@ -20,7 +20,7 @@ use Rattle.sheet_files.specs.Planning.{header_of}
 use Rattle.sheet_files.specs.SheetFiles.{IsSheetFile}
 use Rattle.sheet_files.specs.Steps.{ReadsFirst}
 use Rattle.plate_rows.specs.Trays.{IsCalm, tray_at}
-use Rattle.sheet_geometry.specs.Bare.{IsBareSheet, bare_sheet}
+use Rattle.sheet_geometry.specs.Outline.{IsOutlineSheet, outline_sheet}
 use Rattle.sheet_geometry.specs.Planned.{IsPlan}
 
 -- the header that each plate of a sheet has
@@ -32,16 +32,16 @@ header_in sheet =
 -- and where all do, the sheet is the one that the job and the plates make.
 pub record IsJudged (source : Sources) (budget : Budget) (trays : List TrayState)
     (judged : PlannedSheet) : Type 0 where
-  pub valid : IsBareSheet judged.bare
-  pub blank : bare_sheet judged.bare ≡ judged.bare
-  pub accepted : sheet_refusal judged.bare ≡ None
-  pub plan : IsPlan judged.bare budget judged.plan
+  pub valid : IsOutlineSheet judged.outline
+  pub blank : outline_sheet judged.outline ≡ judged.outline
+  pub accepted : sheet_error judged.outline ≡ None
+  pub plan : IsPlan judged.outline budget judged.plan
   pub sheet : PageParts
   pub made : IsMadeSheet source trays sheet
-  pub same : bare_sheet sheet ≡ judged.bare
+  pub same : outline_sheet sheet ≡ judged.outline
   pub headers : (k : ℕ) → k < length source.inputs → IsTrue (tray_at trays k).tells
       → Spells (plates_by trays source.inputs k) (λ bytes. (plate : PlateRead)
-      × IsSheetFile bytes plate × (header_of plate ≡ header_in judged.bare))
+      × IsSheetFile bytes plate × (header_of plate ≡ header_in judged.outline))
 
 -- what the answer says of the files' bytes, where they are known, and of the names that were handed
 -- out
@@ -50,7 +50,7 @@ pub data AnswersJudging (source : Sources) (budget : Budget) (before after : Lis
   judged : (sheet : PlannedSheet) → result ≡ Ok sheet → IsJudged source budget before sheet
       → ((k : ℕ) → k < length source.inputs → AsksAll source before after k)
       → ((k : ℕ) → IsCalm before after k) → AnswersJudging source budget before after result
-  refused : (stop : TrapsheetError) → result ≡ Err stop → RefusesFiles source before after stop
+  refused : (error : TrapsheetError) → result ≡ Err error → RefusesFiles source before after error
       → AnswersJudging source budget before after result
   unread : (file : Option ℕ) → result ≡ Err (Common (Read file))
       → FailsToRead source before after file → AnswersJudging source budget before after result

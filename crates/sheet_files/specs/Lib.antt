@@ -1,4 +1,4 @@
-pub mod Stops
+pub mod Errors
 pub mod Trays
 pub mod SheetFiles
 pub mod Inputs

@@ -3,10 +3,10 @@
 use Rattle.std.specs.Prelude.{◌≡◌, ◌≢◌, ◌⊎◌, ℕ, zero, suc, ◌<◌, ◌≤◌, IsTrue, List, [], ◌∷◌}
 use Rattle.std.specs.Prelude.{length, take, Option, Some, None, Result, Ok, Err}
 use Rattle.std.specs.List.{All}
-use Rattle.outside.specs.Causes.{Asks, AsksPrefix, RoseOnce}
+use Rattle.outside.specs.ErrorCases.{Asks, AsksPrefix, RoseOnce}
 use Rattle.outside.specs.Rack.{RackState, KeepsRack, put}
 use Rattle.outside.specs.Writing.{WritesFile}
-use Rattle.outside.specs.declared.tray.Failed.{Failed}
+use Rattle.outside.specs.declared.tray.DeviceError.{DeviceError}
 use Rattle.page_files.specs.Inputs.{name_at}
 use Rattle.page_model.specs.declared.parts.Plane.{Plane}
 use Rattle.page_model.specs.Limits.{most_maxval}
@@ -15,10 +15,10 @@ use Rattle.page_files.specs.Files.{Written}
 use Rattle.page_files.specs.Format.{encoded}
 use Rattle.page_files.specs.Writing.{BreaksAt, WritesAll}
 use Rattle.plate_rows.specs.Racks.{rack_at}
-use Rattle.refusals.specs.declared.refusal.Refusal.TheVariants.{Write}
+use Rattle.common_errors.specs.declared.common.CommonError.TheVariants.{Write}
 use Rattle.sheet_files.specs.Gathering.{tray_of}
-use Rattle.sheet_files.specs.declared.stop.TrapsheetError.{TrapsheetError}
-use Rattle.sheet_files.specs.declared.stop.TrapsheetError.TheVariants.{Common}
+use Rattle.sheet_files.specs.declared.error.TrapsheetError.{TrapsheetError}
+use Rattle.sheet_files.specs.declared.error.TrapsheetError.TheVariants.{Common}
 use Rattle.page_files.specs.Verdicts.{Targets}
 
 -- plate k as a file
@@ -41,8 +41,8 @@ rack_names target (suc k) = name_at target.outputs (suc k) ∷ []
 -- printed.
 pub record KeepsRacks (target : Targets) (before after : List RackState) : Type 0 where
   pub keeps : (k : ℕ) → KeepsRack (rack_at before k) (rack_at after k)
-  pub told : (k : ℕ) → IsTrue (rack_at before k).tells
-      → (rack_at after k).told ≡ (rack_at before k).told
+  pub reported : (k : ℕ) → IsTrue (rack_at before k).tells
+      → (rack_at after k).reported ≡ (rack_at before k).reported
   pub asked : (k : ℕ)
       → AsksPrefix (rack_at before k).asked (rack_at after k).asked (rack_names target k)
   pub beyond : (k : ℕ) → length target.outputs ≤ k → rack_at after k ≡ rack_at before k
@@ -106,7 +106,7 @@ targets outputs report = record { outputs = outputs; report = report }
 -- were.
 pub record WritesFirst (outputs : List (List ℕ)) (planes : List Plane) (count : ℕ)
     (before after : List RackState) : Type 0 where
-  pub each : (k : ℕ) → k < count → WritesFile {T = Unit {0}} {E = Failed} (name_at outputs k)
+  pub each : (k : ℕ) → k < count → WritesFile {T = Unit {0}} {E = DeviceError} (name_at outputs k)
       (encoded (plane_at planes k)) (rack_at before k) (rack_at after k) (Ok tt)
   pub others : (k : ℕ) → count ≤ k → rack_at after k ≡ rack_at before k
 
@@ -115,7 +115,7 @@ pub data WritesPlates (outputs : List (List ℕ)) (planes : List Plane)
     (before after : List RackState) (result : Result (Unit {0}) TrapsheetError) : Type 0 where
   wrote : result ≡ Ok tt → WritesFirst outputs planes (length outputs) before after
       → WritesPlates outputs planes before after result
-  broke : (k : ℕ) (between : List RackState) (failed : Failed)
+  broke : (k : ℕ) (between : List RackState) (failed : DeviceError)
       → result ≡ Err (Common (Write (Some k))) → k < length outputs
       → WritesFirst outputs planes k before between
       → WritesFile {T = Unit {0}} (name_at outputs k) (encoded (plane_at planes k))

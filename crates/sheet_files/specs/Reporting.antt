@@ -2,7 +2,7 @@
 use Rattle.std.specs.Prelude.{◌≡◌, ℕ, List}
 use Rattle.page_model.specs.Counts.{page_counts}
 use Rattle.trap_report.specs.Report.{report_of}
-use Rattle.sheet_geometry.specs.Bare.{bare_sheet}
+use Rattle.sheet_geometry.specs.Outline.{outline_sheet}
 use Rattle.page_model.specs.declared.parts.PageParts.{PageParts}
 use Rattle.sheet_engine.specs.Whole.{IsCounted}
 use Rattle.sheet_engine.specs.declared.counts.SheetCounts.{SheetCounts}
@@ -12,7 +12,7 @@ abbrev pub sheet_report : PageParts → List ℕ
 sheet_report sheet = report_of sheet (page_counts sheet)
 
 -- These are the counts of a sheet that is bare so.
-pub record CountSome (bare : PageParts) (counts : SheetCounts) : Type 0 where
+pub record CountSome (outline : PageParts) (counts : SheetCounts) : Type 0 where
   pub sheet : PageParts
-  pub same : bare_sheet sheet ≡ bare
+  pub same : outline_sheet sheet ≡ outline
   pub counted : IsCounted sheet counts

@@ -15,14 +15,14 @@ use Rattle.sheet_geometry.specs.Begun.{BeginsWith}
 
 -- the tints that were read of plate c, of a sheet that is bare so
 abbrev pub tints_read : PageParts → (ℕ → List ℕ) → ℕ → List ℕ
-tints_read bare samples c = turned (maxval bare) (samples c)
+tints_read outline samples c = turned (maxval outline) (samples c)
 
 -- After the first reading some samples of each plate were read once more, and its header is still
 -- the sheet's.
-pub record IsReread (source : Sources) (bare : PageParts) (plates : List OpenPlate)
+pub record IsReread (source : Sources) (outline : PageParts) (plates : List OpenPlate)
     (samples : ℕ → List ℕ) (between after : List TrayState) : Type 0 where
   pub count : length plates ≡ length source.inputs
-  pub headers : (k : ℕ) → k < length source.inputs → (open_at plates k).header ≡ header_in bare
+  pub headers : (k : ℕ) → k < length source.inputs → (open_at plates k).header ≡ header_in outline
   pub read : HaveRead source.inputs plates (length source.inputs) samples between after
 
 -- There is a sheet that begins with what was read again, and it is the one that the job and the
@@ -31,6 +31,6 @@ abbrev pub SheetIsReread : Type 0
 SheetIsReread = (source : Sources) (budget : Budget) (judged : PlannedSheet)
     (plates : List OpenPlate) (samples : ℕ → List ℕ) (before between after : List TrayState)
     → TakesTrays source before between → IsJudged source budget before judged
-    → IsReread source judged.bare plates samples between after → (sheet : PageParts)
+    → IsReread source judged.outline plates samples between after → (sheet : PageParts)
     × IsMadeSheet source before sheet
-    × BeginsWith judged.bare (tints_read judged.bare samples) sheet
+    × BeginsWith judged.outline (tints_read judged.outline samples) sheet

@@ -2,32 +2,32 @@
 use Rattle.std.specs.Prelude.{◌≡◌, ◌≢◌, ◌⊎◌, ℕ, ◌<◌, ◌≤◌, ◌+◌, ◌++◌, IsTrue, List, [], ◌∷◌, length}
 use Rattle.std.specs.Prelude.{All, Some, Result, Ok, Err}
 use Rattle.job_reader.specs.declared.job.Job.{Job}
-use Rattle.outside.specs.Causes.{Rose, Asks}
+use Rattle.outside.specs.ErrorCases.{Rose, Asks}
 use Rattle.outside.specs.Tray.{TrayState, KeepsTray}
 use Rattle.page_files.specs.Inputs.{name_at}
 use Rattle.page_files.specs.Steps.{ReadsJob, TakesPlate}
 use Rattle.pgm_plates.specs.declared.plate.Plate.{Plate as PlateRead}
 use Rattle.pgm_plates.specs.declared.plate.PlateFault.{PlateFault}
-use Rattle.pgm_plates.specs.declared.plate.PlateRefusal.TheVariants.{Fault}
+use Rattle.pgm_plates.specs.declared.plate.PlateError.TheVariants.{Fault}
 use Rattle.pgm_plates.specs.Reading.{IsTruncated, KeepsCount}
-use Rattle.refusals.specs.declared.refusal.Refusal.{Refusal}
-use Rattle.refusals.specs.declared.refusal.Refusal.TheVariants.{Plate, Read}
+use Rattle.common_errors.specs.declared.common.CommonError.{CommonError}
+use Rattle.common_errors.specs.declared.common.CommonError.TheVariants.{Plate, Read}
 use Rattle.sheet_files.specs.Inputs.{AreSpelled, Spells, plates_by}
 use Rattle.sheet_files.specs.SheetFiles.{IsSheetFault, IsSheetPlate}
 use Rattle.plate_rows.specs.Trays.{IsCalm, tray_at}
 use Rattle.sheet_files.specs.Trays.{AllTell}
-use Rattle.sheet_files.specs.declared.stop.TrapsheetError.{TrapsheetError}
-use Rattle.sheet_files.specs.declared.stop.TrapsheetError.TheVariants.{Common}
+use Rattle.sheet_files.specs.declared.error.TrapsheetError.{TrapsheetError}
+use Rattle.sheet_files.specs.declared.error.TrapsheetError.TheVariants.{Common}
 
 -- a step that is refused as one of a page is
-abbrev pub common : {T : Type 0} → Result T Refusal → Result T TrapsheetError
+abbrev pub common : {T : Type 0} → Result T CommonError → Result T TrapsheetError
 common (Ok value) = Ok value
-common (Err refusal) = Err (Common refusal)
+common (Err common_error) = Err (Common common_error)
 
 -- The job of that name is read by the first tray; the others are as they were.
 pub record ReadsFirst (name : List ℕ) (before after : List TrayState)
     (result : Result Job TrapsheetError) : Type 0 where
-  pub read : Result Job Refusal
+  pub read : Result Job CommonError
   pub same : result ≡ common read
   pub first : ReadsJob name (tray_at before 0) (tray_at after 0) read
   pub others : (k : ℕ) → k ≢ 0 → tray_at after k ≡ tray_at before k

@@ -1,7 +1,7 @@
 ghost use Rattle.std.specs.Prelude.{◌≡◌, ◌≤◌, length, map};
 ghost use Rattle.sheet_files.specs.Steps.{ReadsFirst};
 
-use crate::stop::TrapsheetError;
+use crate::error::TrapsheetError;
 use job_reader::job::Job;
 use outside::tray::Tray;
 use page_files::job::read_job_file;
@@ -18,6 +18,6 @@ pub(crate) fn read_first<T: Tray>(
 {
     match read_job_file(alloc, &mut trays[0], name) {
         Ok(job) => Ok(job),
-        Err(refusal) => Err(TrapsheetError::Common(refusal)),
+        Err(common_error) => Err(TrapsheetError::Common(common_error)),
     }
 }

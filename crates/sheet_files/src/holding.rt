@@ -1,19 +1,19 @@
 // A sheet that is not cut into strips, read once more with all its rows.
 
 ghost use Rattle.std.specs.Prelude.{◌≡◌, ◌<◌, ◌≤◌, ◌^◌, length, map};
-ghost use Rattle.sheet_geometry.specs.Bare.{IsBareSheet};
+ghost use Rattle.sheet_geometry.specs.Outline.{IsOutlineSheet};
 ghost use Rattle.page_model.specs.Page.{height, plates, width};
 ghost use Rattle.sheet_stream.specs.Whole.{all_rows};
-ghost use Rattle.sheet_stream.specs.HeldStrips.{IsStripOf};
+ghost use Rattle.sheet_stream.specs.StoredStrips.{IsStripOf};
 ghost use Rattle.sheet_files.specs.Holding.{HoldsAll};
 
+use crate::error::{TrapsheetError, error_of};
 use crate::streaming::header_for;
+use common_errors::common::CommonError;
 use lists::memory::vec_of;
 use outside::tray::Tray;
 use page_model::parts::PageParts;
-use refusals::refusal::Refusal;
-use crate::stop::{TrapsheetError, error_of};
-use sheet_stream::whole::{hold_sheet, sheet_room};
+use sheet_stream::whole::{hold_sheet, sheet_workspace};
 use std::alloc::Global;
 use std::convert::AsStr;
 
@@ -26,19 +26,19 @@ pub fn hold<T: Tray, S: AsStr>(
     alloc: Global,
     trays: &mut [T],
     inputs: &[S],
-    bare: &PageParts,
+    outline: &PageParts,
 ) -> Result<PageParts, TrapsheetError>
-    requires bare { IsBareSheet bare.now }
-    requires narrow { width bare.now < 2 ^ 30 }
-    requires low { height bare.now < 2 ^ 30 }
-    requires inputs { length inputs.now ≡ plates bare.now }
-    requires trays { plates bare.now ≤ length trays.old }
-    ensures { HoldsAll (map S.text inputs.now) bare.now (map T.state trays.old)
+    requires outline { IsOutlineSheet outline.now }
+    requires narrow { width outline.now < 2 ^ 30 }
+    requires low { height outline.now < 2 ^ 30 }
+    requires inputs { length inputs.now ≡ plates outline.now }
+    requires trays { plates outline.now ≤ length trays.old }
+    ensures { HoldsAll (map S.text inputs.now) outline.now (map T.state trays.old)
         (map T.state trays.new) result }
 {
-    match (sheet_room(alloc, bare), vec_of(alloc, 0u8, PIECE)) {
-        (Ok(room), Ok(bytes)) => hold_in(alloc, trays, inputs, bare, room, bytes),
-        _ => Err(TrapsheetError::Common(Refusal::Memory)),
+    match (sheet_workspace(alloc, outline), vec_of(alloc, 0u8, PIECE)) {
+        (Ok(workspace), Ok(bytes)) => hold_in(alloc, trays, inputs, outline, workspace, bytes),
+        _ => Err(TrapsheetError::Common(CommonError::Memory)),
     }
 }
 
@@ -47,23 +47,31 @@ fn hold_in<T: Tray, S: AsStr>(
     alloc: Global,
     trays: &mut [T],
     inputs: &[S],
-    bare: &PageParts,
-    room: PageParts,
+    outline: &PageParts,
+    workspace: PageParts,
     bytes: Vec<u8>,
 ) -> Result<PageParts, TrapsheetError>
-    requires bare { IsBareSheet bare.now }
-    requires inputs { length inputs.now ≡ plates bare.now }
-    requires trays { plates bare.now ≤ length trays.old }
-    requires room { IsStripOf bare.now (all_rows bare.now) room }
+    requires outline { IsOutlineSheet outline.now }
+    requires inputs { length inputs.now ≡ plates outline.now }
+    requires trays { plates outline.now ≤ length trays.old }
+    requires workspace { IsStripOf outline.now (all_rows outline.now) workspace }
     requires bytes { 2 ≤ length bytes.items }
-    ensures { HoldsAll (map S.text inputs.now) bare.now (map T.state trays.old)
+    ensures { HoldsAll (map S.text inputs.now) outline.now (map T.state trays.old)
         (map T.state trays.new) result }
 {
-    let header = header_for(bare);
-    let mut sheet = room;
+    let header = header_for(outline);
+    let mut sheet = workspace;
     let mut buffer = bytes;
-    match hold_sheet(alloc, trays, inputs, bare, header, &mut sheet, &mut buffer) {
+    match hold_sheet(
+        alloc,
+        trays,
+        inputs,
+        outline,
+        header,
+        &mut sheet,
+        &mut buffer,
+    ) {
         Ok(()) => Ok(sheet),
-        Err(stop) => Err(error_of(stop)),
+        Err(error) => Err(error_of(error)),
     }
 }

@@ -4,10 +4,9 @@ ghost use Rattle.page_files.specs.Inputs.{sources};
 ghost use Rattle.sheet_files.specs.Judging.{JudgesRest, JudgesSheet};
 ghost use Rattle.page_model.specs.Limits.{most_plates};
 
+use crate::error::TrapsheetError;
 use crate::gather::read_first;
 use crate::planning::{PlannedSheet, plan_headers};
-use crate::stop::TrapsheetError;
-use sheet_geometry::budget::Budget;
 use job_reader::job::Job;
 use lists::names::NameList;
 use outside::tray::Tray;
@@ -15,8 +14,9 @@ use page_model::bounds::MOST_PLATES;
 use pgm_plates::bounds::Bounds;
 use pgm_plates::laws::file_fault_within;
 use pgm_plates::rows::Header;
-use plate_rows::sharing::judge_plates;
 use plate_rows::laws::plates_judged;
+use plate_rows::sharing::judge_plates;
+use sheet_geometry::budget::Budget;
 use std::alloc::Global;
 use std::convert::AsStr;
 use std::thread::Threads;
@@ -25,7 +25,7 @@ use std::thread::Threads;
 /// side on as many threads as there are workers; and checks the sheet that they make. Of a plate only its header is
 /// kept. The names are those of the plates' colorants.
 ///
-/// The refusal is the first of these: a read that fails, the job's fault, a plate's fault, a plate without details, a
+/// The error is the first of these: a read that fails, the job's fault, a plate's fault, a plate without details, a
 /// fault of the sheet, or out of memory. If several plates are refused it is the first of them in the order of the
 /// files; some of the plates after it may have been read as well.
 pub fn judge_sheet<H: Threads + Sync, T: Tray + Send, S: AsStr + Sync>(
@@ -48,7 +48,7 @@ pub fn judge_sheet<H: Threads + Sync, T: Tray + Send, S: AsStr + Sync>(
 {
     match read_first(alloc, trays, job) {
         Ok(read) => judge_rest(rt, alloc, workers, trays, read, names, inputs, budget),
-        Err(stop) => Err(stop),
+        Err(error) => Err(error),
     }
 }
 
@@ -82,6 +82,6 @@ fn judge_rest<H: Threads + Sync, T: Tray + Send, S: AsStr + Sync>(
     let mut headers = [none; MOST_PLATES];
     match judge_plates(rt, workers, trays, inputs, &mut headers) {
         Ok(()) => plan_headers(alloc, job, &headers[..inputs.len()], names, budget),
-        Err(refusal) => Err(TrapsheetError::Common(refusal)),
+        Err(common_error) => Err(TrapsheetError::Common(common_error)),
     }
 }

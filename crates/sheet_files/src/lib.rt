@@ -2,6 +2,7 @@
 //! report are written.
 #![tactic(auto)]
 
+pub mod error;
 mod gather;
 pub mod holding;
 pub mod judging;
@@ -9,7 +10,6 @@ pub mod laws;
 pub mod outcome;
 pub mod planning;
 pub mod reporting;
-pub mod stop;
 pub mod streaming;
 pub mod telling;
 pub mod whole;

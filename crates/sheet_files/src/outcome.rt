@@ -9,18 +9,18 @@ ghost use Rattle.page_model.specs.Conditions.{IsPage};
 
 use crate::reporting::counts_in_report;
 use crate::whole::{TrappedSheet, trap_sheet};
-use sheet_geometry::plan::{Plan, Rulers};
 use lists::list::List;
 use page_model::page::Page;
 use page_model::parts::{Name, OutOfMemory, PageParts, Plane, PlaneList, Tints};
 use page_tally::Trapped;
+use sheet_engine::counts::SheetCounts;
+use sheet_geometry::plan::{Plan, Rulers};
+use sheet_geometry::window_sheet::Sheet;
 use std::alloc::Global;
 use std::thread::Threads;
 use strip_engine::trap_alone;
-use sheet_engine::counts::SheetCounts;
 use trap_report::parts::report_parts;
 use trap_report::report::report;
-use sheet_geometry::window_sheet::Sheet;
 
 /// A sheet after trapping: its planes, and its report.
 #[derive(Drop)]

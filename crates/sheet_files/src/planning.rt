@@ -3,24 +3,24 @@ ghost use Rattle.job_reader.specs.InRange.{IsJob};
 ghost use Rattle.page_files.specs.Assembly.{parts_of_planes};
 ghost use Rattle.page_model.specs.Page.{height, width};
 ghost use Rattle.sheet_files.specs.Planning.{CanPlan, CanPlanPlanes, PlansParts, PlansSheet, plane_for};
-ghost use Rattle.sheet_geometry.specs.Bare.{IsBareParts};
+ghost use Rattle.sheet_geometry.specs.Outline.{IsOutlineParts};
 
-use crate::stop::TrapsheetError;
-use sheet_geometry::budget::Budget;
-use sheet_geometry::plan::{Plan, plan_sheet};
+use crate::error::TrapsheetError;
+use common_errors::common::CommonError;
 use job_reader::job::Job;
 use lists::list::List;
 use lists::names::NameList;
 use page_files::assemble::{parts_of, without_details};
 use page_model::parts::{OutOfMemory, PageParts, Plane, PlaneList};
 use pgm_plates::rows::Header;
-use refusals::refusal::Refusal;
+use sheet_geometry::budget::Budget;
+use sheet_geometry::plan::{Plan, plan_sheet};
 use std::alloc::Global;
 
 /// A sheet before its tints are read: all of it but these, and how it is going to be trapped.
 #[derive(Drop)]
 pub struct PlannedSheet {
-    pub bare: PageParts,
+    pub outline: PageParts,
     pub plan: Plan,
 }
 
@@ -42,10 +42,10 @@ pub fn plan_headers(
     ensures { PlansSheet budget.now job headers.now names.now result }
 {
     match without_details(&job, names) {
-        Some(plate) => Err(TrapsheetError::Common(Refusal::NoDetails(plate))),
-        None => match bare_planes(alloc, headers) {
+        Some(plate) => Err(TrapsheetError::Common(CommonError::NoDetails(plate))),
+        None => match outline_planes(alloc, headers) {
             Ok(planes) => plan_planes(alloc, job, planes, names, budget),
-            Err(OutOfMemory) => Err(TrapsheetError::Common(Refusal::Memory)),
+            Err(OutOfMemory) => Err(TrapsheetError::Common(CommonError::Memory)),
         },
     }
 }
@@ -63,30 +63,30 @@ fn plan_planes(
     ensures { PlansParts budget.now (parts_of_planes job planes names.now) result }
 {
     match parts_of(alloc, job, planes, names) {
-        Ok(bare) => plan_parts(bare, budget),
-        Err(OutOfMemory) => Err(TrapsheetError::Common(Refusal::Memory)),
+        Ok(outline) => plan_parts(outline, budget),
+        Err(OutOfMemory) => Err(TrapsheetError::Common(CommonError::Memory)),
     }
 }
 
-// These parts with their plan, or the refusal of the sheet.
-fn plan_parts(bare: PageParts, budget: &Budget) -> Result<PlannedSheet, TrapsheetError>
-    requires bare { IsBareParts bare }
-    requires narrow { width bare < 2 ^ 30 }
-    requires low { height bare < 2 ^ 30 }
-    ensures { PlansParts budget.now bare result }
+// These parts with their plan, or the error of the sheet.
+fn plan_parts(outline: PageParts, budget: &Budget) -> Result<PlannedSheet, TrapsheetError>
+    requires outline { IsOutlineParts outline }
+    requires narrow { width outline < 2 ^ 30 }
+    requires low { height outline < 2 ^ 30 }
+    ensures { PlansParts budget.now outline result }
 {
-    match plan_sheet(&bare, budget) {
-        Ok(plan) => Ok(PlannedSheet { bare, plan }),
-        Err(refusal) => Err(TrapsheetError::OfSheet(refusal)),
+    match plan_sheet(&outline, budget) {
+        Ok(plan) => Ok(PlannedSheet { outline, plan }),
+        Err(common_error) => Err(TrapsheetError::OfSheet(common_error)),
     }
 }
 
-fn bare_planes(alloc: Global, headers: &[Header]) -> Result<PlaneList, OutOfMemory>
+fn outline_planes(alloc: Global, headers: &[Header]) -> Result<PlaneList, OutOfMemory>
     ensures { IfOk result (λ planes. planes ≡ map plane_for headers.now) }
 {
     let mut planes = List::new(alloc);
     for header in headers {
-        if planes.push(bare_plane(alloc, header)).is_err() {
+        if planes.push(outline_plane(alloc, header)).is_err() {
             return Err(OutOfMemory);
         }
     }
@@ -94,7 +94,7 @@ fn bare_planes(alloc: Global, headers: &[Header]) -> Result<PlaneList, OutOfMemo
 }
 
 // The plane of a header, without its tints.
-fn bare_plane(alloc: Global, header: &Header) -> Plane
+fn outline_plane(alloc: Global, header: &Header) -> Plane
     ensures { result ≡ plane_for header.now }
 {
     Plane {

@@ -1,7 +1,7 @@
 // The report of a sheet that streams.
 
 ghost use Rattle.std.specs.Prelude.{◌≡◌, ◌≢◌, ◌≤◌, ℕ, length, map};
-ghost use Rattle.sheet_geometry.specs.Bare.{bare_sheet};
+ghost use Rattle.sheet_geometry.specs.Outline.{outline_sheet};
 ghost use Rattle.outside.specs.Writing.{WritesFile};
 ghost use Rattle.page_model.specs.declared.parts.PageParts.{PageParts};
 ghost use Rattle.page_model.specs.Counts.{page_counts};
@@ -14,11 +14,11 @@ ghost use Rattle.sheet_files.specs.Reporting.{CountSome};
 
 use lists::list::List;
 use outside::rack::Rack;
-use outside::tray::Failed;
+use outside::tray::DeviceError;
 use page_model::parts::{Counts, PageParts};
-use trap_report::file::write_report;
-use sheet_stream::held_laws::report_is_bare;
 use sheet_engine::counts::SheetCounts;
+use sheet_stream::stored_laws::report_is_outline;
+use trap_report::file::write_report;
 
 /// The counts of a sheet as its report has them.
 pub fn counts_in_report(counts: SheetCounts) -> Counts
@@ -43,20 +43,20 @@ pub fn counts_in_report(counts: SheetCounts) -> Counts
 pub fn report_counts<R: Rack>(
     racks: &mut [R],
     name: &str,
-    bare: &PageParts,
+    outline: &PageParts,
     counts: SheetCounts,
-) -> Result<(), Failed>
+) -> Result<(), DeviceError>
     requires racks { 1 ≤ length racks.old }
-    requires some { 1 ≤ plates bare.now }
-    requires inks { length bare.now.inks ≡ plates bare.now }
-    requires counts { CountSome bare.now counts }
-    ensures here { (sheet : PageParts) → bare_sheet sheet ≡ bare.now → IsCounted sheet counts
+    requires some { 1 ≤ plates outline.now }
+    requires inks { length outline.now.inks ≡ plates outline.now }
+    requires counts { CountSome outline.now counts }
+    ensures here { (sheet : PageParts) → outline_sheet sheet ≡ outline.now → IsCounted sheet counts
         → WritesFile name.now (sheet_report sheet) (rack_at (map R.state racks.old) 0)
         (rack_at (map R.state racks.new) 0) result }
     ensures others { (k : ℕ) → k ≢ 0
         → rack_at (map R.state racks.new) k ≡ rack_at (map R.state racks.old) k }
 {
-    report_is_bare();
-    let told = counts_in_report(counts);
-    write_report(&mut racks[0], name, bare, &told)
+    report_is_outline();
+    let reported = counts_in_report(counts);
+    write_report(&mut racks[0], name, outline, &reported)
 }

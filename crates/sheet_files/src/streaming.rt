@@ -3,46 +3,46 @@
 ghost use Rattle.std.specs.Prelude.{◌≡◌, ◌≤◌, length, map};
 ghost use Rattle.page_model.specs.Page.{plates};
 ghost use Rattle.sheet_stream.specs.Strips.{CanStream};
-ghost use Rattle.sheet_stream.specs.Rooms.{IsStreamRoom};
+ghost use Rattle.sheet_stream.specs.Workspaces.{IsStreamWorkspace};
 ghost use Rattle.sheet_stream.specs.Second.{course_of, sheet_header};
 ghost use Rattle.sheet_engine.specs.Works.{AreNone};
 ghost use Rattle.sheet_files.specs.Reporting.{CountSome};
 ghost use Rattle.sheet_files.specs.Streaming.{EndsReport, StreamsBy, StreamsOut, stream_error};
-ghost use Rattle.sheet_files.specs.Stops.{error_of};
+ghost use Rattle.sheet_files.specs.Errors.{error_of};
 
+use crate::error::{TrapsheetError, error_of};
 use crate::reporting::report_counts;
-use sheet_geometry::plan::Rulers;
+use common_errors::common::CommonError;
 use outside::rack::Rack;
-use outside::tray::{Failed, Tray};
+use outside::tray::{DeviceError, Tray};
 use page_model::parts::{OutOfMemory, PageParts};
 use pgm_plates::rows::Header;
-use refusals::refusal::Refusal;
-use crate::stop::{TrapsheetError, error_of};
-use sheet_stream::room::{StreamRoom, stream_room};
+use sheet_engine::counts::SheetCounts;
+use sheet_geometry::plan::Rulers;
+use sheet_stream::error::StreamError;
+use sheet_stream::parts::StripPlan;
 use sheet_stream::sheet::stream_sheet;
+use sheet_stream::workspace::{StreamWorkspace, stream_workspace};
 use std::alloc::Global;
 use std::convert::AsStr;
 use std::thread::Threads;
-use sheet_stream::parts::StripPlan;
-use sheet_stream::stop::StreamError;
-use sheet_engine::counts::SheetCounts;
 
 // The program's error for what stopped a sheet that streams.
-fn stream_error(stop: StreamError) -> TrapsheetError
-    ensures { result ≡ stream_error stop }
+fn stream_error(error: StreamError) -> TrapsheetError
+    ensures { result ≡ stream_error error }
 {
-    match stop {
-        StreamError::Unread(stop) => error_of(stop),
-        StreamError::Unwritten(refusal) => TrapsheetError::Common(refusal),
+    match error {
+        StreamError::Unread(error) => error_of(error),
+        StreamError::Unwritten(common_error) => TrapsheetError::Common(common_error),
     }
 }
 
 /// The header that each plate of a sheet has.
-pub fn header_for(bare: &PageParts) -> Header
-    requires { 1 ≤ plates bare.now }
-    ensures { result ≡ sheet_header bare.now }
+pub fn header_for(outline: &PageParts) -> Header
+    requires { 1 ≤ plates outline.now }
+    ensures { result ≡ sheet_header outline.now }
 {
-    let planes = bare.planes.as_slice();
+    let planes = outline.planes.as_slice();
     Header {
         width: planes[0].width,
         height: planes[0].height,
@@ -61,30 +61,30 @@ pub fn stream<H: Threads + Sync, T: Tray, R: Rack, S: AsStr>(
     outputs: &[S],
     report: &str,
     workers: u32,
-    bare: &PageParts,
+    outline: &PageParts,
     rulers: &Rulers,
 ) -> Result<(), TrapsheetError>
-    requires can { StreamsBy bare.now rulers.now }
+    requires can { StreamsBy outline.now rulers.now }
     requires workers { 1 ≤ workers }
-    requires inputs { length inputs.now ≡ plates bare.now }
-    requires outputs { length outputs.now ≡ plates bare.now }
-    requires trays { plates bare.now ≤ length trays.old }
-    requires racks { plates bare.now ≤ length racks.old }
+    requires inputs { length inputs.now ≡ plates outline.now }
+    requires outputs { length outputs.now ≡ plates outline.now }
+    requires trays { plates outline.now ≤ length trays.old }
+    requires racks { plates outline.now ≤ length racks.old }
     ensures { let course = course_of (map S.text inputs.now) (map S.text outputs.now) (map T.state trays.old) (map R.state racks.old) in
-        StreamsOut course report.now bare.now (map T.state trays.new) (map R.state racks.new)
+        StreamsOut course report.now outline.now (map T.state trays.new) (map R.state racks.new)
         result }
 {
     let plan = StripPlan {
         across: rulers.across,
         down: rulers.down,
-        header: header_for(bare),
+        header: header_for(outline),
         workers: workers as usize,
     };
-    match stream_room(alloc, bare, &plan) {
-        Ok(room) => stream_in(
-            rt, alloc, trays, racks, inputs, outputs, report, bare, &plan, room,
+    match stream_workspace(alloc, outline, &plan) {
+        Ok(workspace) => stream_in(
+            rt, alloc, trays, racks, inputs, outputs, report, outline, &plan, workspace,
         ),
-        Err(OutOfMemory) => Err(TrapsheetError::Common(Refusal::Memory)),
+        Err(OutOfMemory) => Err(TrapsheetError::Common(CommonError::Memory)),
     }
 }
 
@@ -97,45 +97,45 @@ fn stream_in<H: Threads + Sync, T: Tray, R: Rack, S: AsStr>(
     inputs: &[S],
     outputs: &[S],
     report: &str,
-    bare: &PageParts,
+    outline: &PageParts,
     plan: &StripPlan,
-    room: StreamRoom,
+    workspace: StreamWorkspace,
 ) -> Result<(), TrapsheetError>
-    requires can { CanStream bare.now plan.now }
-    requires header { plan.now.header ≡ sheet_header bare.now }
-    requires inputs { length inputs.now ≡ plates bare.now }
-    requires outputs { length outputs.now ≡ plates bare.now }
-    requires trays { plates bare.now ≤ length trays.old }
-    requires racks { plates bare.now ≤ length racks.old }
-    requires room { IsStreamRoom bare.now plan.now room }
-    requires counts { AreNone bare.now room.counts }
+    requires can { CanStream outline.now plan.now }
+    requires header { plan.now.header ≡ sheet_header outline.now }
+    requires inputs { length inputs.now ≡ plates outline.now }
+    requires outputs { length outputs.now ≡ plates outline.now }
+    requires trays { plates outline.now ≤ length trays.old }
+    requires racks { plates outline.now ≤ length racks.old }
+    requires workspace { IsStreamWorkspace outline.now plan.now workspace }
+    requires counts { AreNone outline.now workspace.counts }
     ensures { let course = course_of (map S.text inputs.now) (map S.text outputs.now) (map T.state trays.old) (map R.state racks.old) in
-        StreamsOut course report.now bare.now (map T.state trays.new) (map R.state racks.new)
+        StreamsOut course report.now outline.now (map T.state trays.new) (map R.state racks.new)
         result }
 {
-    let mut used = room;
+    let mut used = workspace;
     let ended = stream_sheet(
-        rt, alloc, trays, racks, inputs, outputs, bare, plan, &mut used,
+        rt, alloc, trays, racks, inputs, outputs, outline, plan, &mut used,
     );
     let counts = counts_in(used);
     match ended {
-        Ok(()) => write_counts(racks, report, bare, counts),
-        Err(stop) => Err(stream_error(stop)),
+        Ok(()) => write_counts(racks, report, outline, counts),
+        Err(error) => Err(stream_error(error)),
     }
 }
 
 // The counts of a sheet that was streamed; all else of its memory is freed.
-fn counts_in(room: StreamRoom) -> SheetCounts
-    ensures { result ≡ room.counts }
+fn counts_in(workspace: StreamWorkspace) -> SheetCounts
+    ensures { result ≡ workspace.counts }
 {
-    let StreamRoom {
+    let StreamWorkspace {
         strip: _strip,
         ahead: _ahead,
         windows: _windows,
         core: _core,
         counts,
         pieces: _pieces,
-    } = room;
+    } = workspace;
     counts
 }
 
@@ -143,18 +143,18 @@ fn counts_in(room: StreamRoom) -> SheetCounts
 fn write_counts<R: Rack>(
     racks: &mut [R],
     report: &str,
-    bare: &PageParts,
+    outline: &PageParts,
     counts: SheetCounts,
 ) -> Result<(), TrapsheetError>
     requires racks { 1 ≤ length racks.old }
-    requires some { 1 ≤ plates bare.now }
-    requires inks { length bare.now.inks ≡ plates bare.now }
-    requires counts { CountSome bare.now counts }
-    ensures { EndsReport report.now bare.now counts (map R.state racks.old)
+    requires some { 1 ≤ plates outline.now }
+    requires inks { length outline.now.inks ≡ plates outline.now }
+    requires counts { CountSome outline.now counts }
+    ensures { EndsReport report.now outline.now counts (map R.state racks.old)
         (map R.state racks.new) result }
 {
-    match report_counts(racks, report, bare, counts) {
+    match report_counts(racks, report, outline, counts) {
         Ok(()) => Ok(()),
-        Err(Failed) => Err(TrapsheetError::Common(Refusal::Write(None))),
+        Err(DeviceError) => Err(TrapsheetError::Common(CommonError::Write(None))),
     }
 }

@@ -6,24 +6,24 @@ ghost use Rattle.page_model.specs.Tints.{new_tints};
 ghost use Rattle.sheet_geometry.specs.Plans.{AreRulers, AreSmall};
 ghost use Rattle.sheet_geometry.specs.Spans.{AreSpans, IsRuler, IsSpan};
 ghost use Rattle.sheet_engine.specs.Strips.{IsSomeSpan, planes_of};
-ghost use Rattle.sheet_engine.specs.Rooms.{IsStripRoom, columns_in, tiles_in};
+ghost use Rattle.sheet_engine.specs.Workspaces.{IsStripWorkspace, columns_in, tiles_in};
 ghost use Rattle.sheet_engine.specs.Whole.{AreTintsTo, HasStrip, IsCounted};
 ghost use Rattle.sheet_files.specs.Kept.{IsKept};
 ghost use Rattle.sheet_engine.specs.Works.{AreNone, HasArea};
-ghost use Rattle.sheet_engine.specs.Growth.{AddsArea, HasRooms};
+ghost use Rattle.sheet_engine.specs.Growth.{AddsArea, HasWorkspaces};
 ghost use Rattle.sheet_geometry.specs.Forms.{form_of};
 
 use lists::list::List;
 use lists::memory::{push, vec_of};
 use page_model::parts::{OutOfMemory, Tints};
+use sheet_engine::counting::no_sheet_counts;
+use sheet_engine::counts::SheetCounts;
+use sheet_engine::rows::strip_tints;
+use sheet_engine::workspace::{StripWorkspace, trap_strip_in};
 use sheet_geometry::spans::{Ruler, Span, spans_of};
+use sheet_geometry::window_sheet::Sheet;
 use std::alloc::Global;
 use std::thread::Threads;
-use sheet_engine::counting::no_sheet_counts;
-use sheet_engine::room::{StripRoom, trap_strip_in};
-use sheet_engine::rows::strip_tints;
-use sheet_engine::counts::SheetCounts;
-use sheet_geometry::window_sheet::Sheet;
 
 /// A sheet after trapping: the new tints of each plate, row by row, and the counts.
 #[derive(Drop)]
@@ -59,21 +59,21 @@ fn add_strip(
     across: &Ruler,
     down: &Ruler,
     row: &Span,
-    room: &StripRoom,
+    workspace: &StripWorkspace,
     line: &mut [u16],
     out: &mut List<Tints>,
 ) -> Result<(), OutOfMemory>
     requires rulers { AreRulers sheet.now across.now down.now }
-    requires columns { AreSpans across.now 0 (columns_in room.now) (width sheet.now) }
+    requires columns { AreSpans across.now 0 (columns_in workspace.now) (width sheet.now) }
     requires row { IsSomeSpan down.now row.now }
-    requires tiles { tiles_in room.now ≡ map (planes_of sheet.now row.now) (columns_in room.now) }
+    requires tiles { tiles_in workspace.now ≡ map (planes_of sheet.now row.now) (columns_in workspace.now) }
     requires line { length line.old ≡ width sheet.now }
     requires plates { length out.old ≡ plates sheet.now }
     ensures line { length line.new ≡ length line.old }
-    ensures out { OnOk result (HasStrip sheet.now (columns_in room.now) row.now out.old out.new) }
+    ensures out { OnOk result (HasStrip sheet.now (columns_in workspace.now) row.now out.old out.new) }
 {
     for c in 0..sheet.plates() {
-        let tints = strip_tints(alloc, sheet, across, down, row, room, c, line)?;
+        let tints = strip_tints(alloc, sheet, across, down, row, workspace, c, line)?;
         extend_plate(alloc, out, c as usize, tints.as_slice())?;
     }
     Ok(())
@@ -92,35 +92,35 @@ fn no_tints(alloc: Global, sheet: &Sheet) -> Result<List<Tints>, OutOfMemory>
 
 /// The buffers of the strip before, and the number of rows of its windows.
 #[derive(Drop)]
-struct KeptRoom {
+struct KeptWorkspace {
     tall: u32,
-    room: StripRoom,
+    workspace: StripWorkspace,
 }
 
 /// The buffers for a strip: those of the strip before, if it has as many rows, or new ones.
-fn fit_room(
+fn fit_workspace(
     alloc: Global,
     sheet: &Sheet,
     across: &Ruler,
     down: &Ruler,
     columns: &[Span],
     row: &Span,
-    kept: Option<KeptRoom>,
-) -> Result<StripRoom, OutOfMemory>
+    kept: Option<KeptWorkspace>,
+) -> Result<StripWorkspace, OutOfMemory>
     requires rulers { AreRulers sheet.now across.now down.now }
     requires small { AreSmall sheet.now across.now down.now }
     requires columns { All (IsSomeSpan across.now) columns.now }
     requires row { IsSomeSpan down.now row.now }
     requires kept { IfSome kept (IsKept (form_of sheet.now) columns.now) }
-    ensures columns { IfOk result (λ room. columns_in room ≡ columns.now) }
-    ensures room { IfOk result (IsStripRoom (form_of sheet.now) row.now.wide) }
+    ensures columns { IfOk result (λ workspace. columns_in workspace ≡ columns.now) }
+    ensures workspace { IfOk result (IsStripWorkspace (form_of sheet.now) row.now.wide) }
 {
     if let Some(before) = kept {
         if before.tall == row.wide {
-            return Ok(before.room);
+            return Ok(before.workspace);
         }
     }
-    StripRoom::new(alloc, sheet, across, down, columns, row)
+    StripWorkspace::new(alloc, sheet, across, down, columns, row)
 }
 
 /// Traps a strip, and appends its new tints to those of the strips above it. Returns the buffers that it used.
@@ -134,11 +134,11 @@ fn trap_row<H: Threads + Sync>(
     row: &Span,
     at: u32,
     workers: usize,
-    kept: Option<KeptRoom>,
+    kept: Option<KeptWorkspace>,
     line: &mut [u16],
     tints: &mut List<Tints>,
     counts: &mut SheetCounts,
-) -> Result<KeptRoom, OutOfMemory>
+) -> Result<KeptWorkspace, OutOfMemory>
     requires some_workers { 1 ≤ workers }
     requires rulers { AreRulers sheet.now across.now down.now }
     requires small { AreSmall sheet.now across.now down.now }
@@ -149,18 +149,28 @@ fn trap_row<H: Threads + Sync>(
     requires kept { IfSome kept (IsKept (form_of sheet.now) columns.now) }
     requires line { length line.old ≡ width sheet.now }
     requires plates { length tints.old ≡ plates sheet.now }
-    requires room { HasRooms sheet.now (width sheet.now * row.now.core) counts.old }
+    requires workspace { HasWorkspaces sheet.now (width sheet.now * row.now.core) counts.old }
     ensures kept { IfOk result (IsKept (form_of sheet.now) columns.now) }
     ensures line { length line.new ≡ length line.old }
     ensures tints { OnOk result (HasStrip sheet.now columns.now row.now tints.old tints.new) }
     ensures counts { OnOk result (AddsArea sheet.now 0 at (width sheet.now) row.now.core
         counts.old counts.new) }
 {
-    let mut room = fit_room(alloc, sheet, across, down, columns, row, kept)?;
-    trap_strip_in(rt, sheet, across, down, row, at, workers, &mut room, counts);
-    add_strip(alloc, sheet, across, down, row, &room, line, tints)?;
+    let mut workspace = fit_workspace(alloc, sheet, across, down, columns, row, kept)?;
+    trap_strip_in(
+        rt,
+        sheet,
+        across,
+        down,
+        row,
+        at,
+        workers,
+        &mut workspace,
+        counts,
+    );
+    add_strip(alloc, sheet, across, down, row, &workspace, line, tints)?;
     let tall = row.wide;
-    Ok(KeptRoom { tall, room })
+    Ok(KeptWorkspace { tall, workspace })
 }
 
 /// Traps the strips of these rows, from the top down, into planes without tints and counts of nothing.
@@ -191,11 +201,11 @@ fn trap_rows<H: Threads + Sync>(
     let mut kept = None;
     let mut at = 0;
     for row in rows {
-        let room = trap_row(
+        let workspace = trap_row(
             rt, alloc, sheet, across, down, columns, row, at, workers, kept, &mut line, tints,
             counts,
         )?;
-        kept = Some(room);
+        kept = Some(workspace);
         at += row.core;
     }
     Ok(())

@@ -1,11 +1,11 @@
 // How large the windows of a sheet are. No byte that is written depends on it.
 
-ghost use Rattle.sheet_geometry.specs.Bare.{IsBareSheet};
+ghost use Rattle.sheet_geometry.specs.Outline.{IsOutlineSheet};
 ghost use Rattle.sheet_files.specs.Streaming.{StreamsBy};
 
+use page_model::parts::PageParts;
 use sheet_geometry::budget::Budget;
 use sheet_geometry::plan::{Plan, Rulers, plan_sheet};
-use page_model::parts::PageParts;
 
 /// The usual window: its rows, and its samples in all plates, unless its halo takes more.
 pub const WINDOW: Budget = Budget {
@@ -29,23 +29,23 @@ const LEAST_ROWS: u64 = 32;
 
 /// The rulers of a sheet's strips; if these have the usual rows, those of strips that are twice as high in a narrow
 /// sheet, and lower in a wide one, so that a strip takes about as much memory however wide the sheet is.
-pub fn rulers_for(bare: &PageParts, rulers: Rulers) -> Rulers
-    requires by { StreamsBy bare.now rulers }
-    ensures { StreamsBy bare.now result }
+pub fn rulers_for(outline: &PageParts, rulers: Rulers) -> Rulers
+    requires by { StreamsBy outline.now rulers }
+    ensures { StreamsBy outline.now result }
 {
     if rulers.down.most != WINDOW.rows {
         return rulers;
     }
-    match plan_sheet(bare, &window_for(bare)) {
+    match plan_sheet(outline, &window_for(outline)) {
         Ok(Plan::Strips(fit)) => fit,
         _ => rulers,
     }
 }
 
-fn window_for(bare: &PageParts) -> Budget
-    requires { IsBareSheet bare.now }
+fn window_for(outline: &PageParts) -> Budget
+    requires { IsOutlineSheet outline.now }
 {
-    let planes = bare.planes.as_slice();
+    let planes = outline.planes.as_slice();
     let wide = planes.len() as u64 * u64::from(planes[0].width);
     if wide <= MOST_DEEP / u64::from(DEEP_WINDOW.rows) {
         return DEEP_WINDOW;

@@ -6,13 +6,13 @@ ghost use Rattle.page_files.specs.Format.{encoded};
 ghost use Rattle.plate_rows.specs.Racks.{rack_at};
 ghost use Rattle.sheet_files.specs.Racks.{WritesPlates, WritesSheet, targets};
 
+use crate::error::TrapsheetError;
+use common_errors::common::CommonError;
 use outside::rack::Rack;
-use outside::tray::Failed;
+use outside::tray::DeviceError;
 use outside::writing::write_file;
-use page_model::parts::Plane;
 use page_files::format::write_encoded;
-use refusals::refusal::Refusal;
-use crate::stop::TrapsheetError;
+use page_model::parts::Plane;
 use std::convert::AsStr;
 
 /// Writes each plane as a plate to the file of its name, plane k by rack k, and then the text to the report by the
@@ -41,9 +41,9 @@ pub fn write_sheet<R: Rack, S: AsStr>(
     match write_plates(racks, names, planes) {
         Ok(()) => match write_report(racks, report, text) {
             Ok(()) => Ok(()),
-            Err(Failed) => Err(TrapsheetError::Common(Refusal::Write(None))),
+            Err(DeviceError) => Err(TrapsheetError::Common(CommonError::Write(None))),
         },
-        Err(stop) => Err(stop),
+        Err(error) => Err(error),
     }
 }
 
@@ -64,14 +64,21 @@ fn write_plates<R: Rack, S: AsStr>(
     for place in 0..names.len() {
         match write_at(racks, place as u32, names[place].as_str(), &planes[place]) {
             Ok(()) => {}
-            Err(Failed) => return Err(TrapsheetError::Common(Refusal::Write(Some(place as u32)))),
+            Err(DeviceError) => return Err(TrapsheetError::Common(CommonError::Write(Some(
+                place as u32,
+            )))),
         }
     }
     Ok(())
 }
 
 // Writes a plane by the rack of that number.
-fn write_at<R: Rack>(racks: &mut [R], plate: u32, name: &str, plane: &Plane) -> Result<(), Failed>
+fn write_at<R: Rack>(
+    racks: &mut [R],
+    plate: u32,
+    name: &str,
+    plane: &Plane,
+) -> Result<(), DeviceError>
     requires known { plate < length racks.old }
     requires maxval { plane.now.maxval ≤ most_maxval }
     requires fits { All (λ t. t ≤ plane.now.maxval) plane.now.tints }
@@ -84,7 +91,7 @@ fn write_at<R: Rack>(racks: &mut [R], plate: u32, name: &str, plane: &Plane) -> 
 }
 
 // Writes the report by the first rack.
-fn write_report<R: Rack>(racks: &mut [R], report: &str, text: &[u8]) -> Result<(), Failed>
+fn write_report<R: Rack>(racks: &mut [R], report: &str, text: &[u8]) -> Result<(), DeviceError>
     requires { 1 ≤ length racks.old }
     ensures here { WritesFile report.now text.now
         (rack_at (map R.state racks.old) 0) (rack_at (map R.state racks.new) 0) result }

@@ -97,7 +97,7 @@ module _ (sheet : PageParts) (across down : Ruler) (at : ℕ) (row : Span) (ok :
     few_samples = (let a = is.inside in let b = ruler.few_samples in omega (arith, a, b));
     small_windows = ruler.small_windows;
     some_step = ruler.some_step;
-    room = ruler.room;
+    workspace = ruler.workspace;
   }
 
   exact_zero : (if down.from_end then row.wide - (0 + row.wide) else 0) % down.step ≡ 0

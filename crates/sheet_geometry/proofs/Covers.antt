@@ -47,20 +47,20 @@ none_down : (area : Cut) (p : At) → within area.top area.height p.y ≡ 0 → 
 none_down area p none = no_times (within area.left area.width p.x) (within area.top area.height p.y) none
 
 -- the sample lies in the area, or it does not and nothing is counted
-data Held (area : Cut) (p : At) : Type 0 where
-  inside : LiesWithin area p → Held area p
-  outside : holds area p ≡ 0 → Held area p
+data Stored (area : Cut) (p : At) : Type 0 where
+  inside : LiesWithin area p → Stored area p
+  outside : holds area p ≡ 0 → Stored area p
 
-held_or : (area : Cut) (p : At) → Held area p
-held_or area p = elim (cases_lt p.x area.left) [
-  | inl low ↦ Held.outside (none_across area p (omega (arith, low)))
+stored_or : (area : Cut) (p : At) → Stored area p
+stored_or area p = elim (cases_lt p.x area.left) [
+  | inl low ↦ Stored.outside (none_across area p (omega (arith, low)))
   | inr l ↦ elim (cases_lt p.x (area.left + area.width)) [
-    | inr high ↦ Held.outside (none_across area p (omega (arith, high)))
+    | inr high ↦ Stored.outside (none_across area p (omega (arith, high)))
     | inl r ↦ elim (cases_lt p.y area.top) [
-      | inl low ↦ Held.outside (none_down area p (omega (arith, low)))
+      | inl low ↦ Stored.outside (none_down area p (omega (arith, low)))
       | inr t ↦ elim (cases_lt p.y (area.top + area.height)) [
-        | inr high ↦ Held.outside (none_down area p (omega (arith, high)))
-        | inl b ↦ Held.inside (record { left = omega (arith, l); right = r; top = omega (arith, t); bottom = b })
+        | inr high ↦ Stored.outside (none_down area p (omega (arith, high)))
+        | inl b ↦ Stored.inside (record { left = omega (arith, l); right = r; top = omega (arith, t); bottom = b })
       ]
     ]
   ]
@@ -76,18 +76,18 @@ none_there f left top wide tall none =
     ∙ sum_none tall
 
 -- what is counted of a function by an area alone
-abbrev held_of : Cut → (At → ℕ) → At → ℕ
-held_of area f p = holds area p * f p
+abbrev stored_of : Cut → (At → ℕ) → At → ℕ
+stored_of area f p = holds area p * f p
 
-no_held : (area : Cut) (f : At → ℕ) (p : At) → holds area p ≡ 0 → held_of area f p ≡ 0
-no_held area f p none = of_none (holds area p) (f p) none
+no_stored : (area : Cut) (f : At → ℕ) (p : At) → holds area p ≡ 0 → stored_of area f p ≡ 0
+no_stored area f p none = of_none (holds area p) (f p) none
 
-all_held : (area : Cut) (f : At → ℕ) (p : At) → holds area p ≡ 1 → held_of area f p ≡ f p
-all_held area f p one = ap (λ (k : ℕ). k * f p) one ∙ (let e : 1 * f p ≡ f p = omega arith in e)
+all_stored : (area : Cut) (f : At → ℕ) (p : At) → holds area p ≡ 1 → stored_of area f p ≡ f p
+all_stored area f p one = ap (λ (k : ℕ). k * f p) one ∙ (let e : 1 * f p ≡ f p = omega arith in e)
 
-one_area : (f : At → ℕ) (area : Cut) (wide tall : ℕ) → area.left + area.width ≤ wide → area.top + area.height ≤ tall → area_sum (held_of area f) 0 0 wide tall ≡ area_sum f area.left area.top area.width area.height
+one_area : (f : At → ℕ) (area : Cut) (wide tall : ℕ) → area.left + area.width ≤ wide → area.top + area.height ≤ tall → area_sum (stored_of area f) 0 0 wide tall ≡ area_sum f area.left area.top area.width area.height
 one_area f area wide tall across down =
-    let g : At → ℕ = held_of area f in
+    let g : At → ℕ = stored_of area f in
     let l : ℕ = area.left in
     let w : ℕ = area.width in
     let t : ℕ = area.top in
@@ -96,16 +96,16 @@ one_area f area wide tall across down =
     let under : ℕ = tall - (t + h) in
     let columns : wide ≡ l + (w + right) = omega (arith, across) in
     let rows : tall ≡ t + (h + under) = omega (arith, down) in
-    let to_left : area_sum g 0 0 l tall ≡ 0 = none_there g 0 0 l tall (λ x y lx ly. no_held area f (at_ (0 + x) (0 + y)) (none_across area (at_ (0 + x) (0 + y)) (omega (arith, lx)))) in
-    let to_right : area_sum g (0 + l + w) 0 right tall ≡ 0 = none_there g (0 + l + w) 0 right tall (λ x y lx ly. no_held area f (at_ (0 + l + w + x) (0 + y)) (none_across area (at_ (0 + l + w + x) (0 + y)) (omega arith))) in
-    let above : area_sum g (0 + l) 0 w t ≡ 0 = none_there g (0 + l) 0 w t (λ x y lx ly. no_held area f (at_ (0 + l + x) (0 + y)) (none_down area (at_ (0 + l + x) (0 + y)) (omega (arith, ly)))) in
-    let below : area_sum g (0 + l) (0 + t + h) w under ≡ 0 = none_there g (0 + l) (0 + t + h) w under (λ x y lx ly. no_held area f (at_ (0 + l + x) (0 + t + h + y)) (none_down area (at_ (0 + l + x) (0 + t + h + y)) (omega arith))) in
+    let to_left : area_sum g 0 0 l tall ≡ 0 = none_there g 0 0 l tall (λ x y lx ly. no_stored area f (at_ (0 + x) (0 + y)) (none_across area (at_ (0 + x) (0 + y)) (omega (arith, lx)))) in
+    let to_right : area_sum g (0 + l + w) 0 right tall ≡ 0 = none_there g (0 + l + w) 0 right tall (λ x y lx ly. no_stored area f (at_ (0 + l + w + x) (0 + y)) (none_across area (at_ (0 + l + w + x) (0 + y)) (omega arith))) in
+    let above : area_sum g (0 + l) 0 w t ≡ 0 = none_there g (0 + l) 0 w t (λ x y lx ly. no_stored area f (at_ (0 + l + x) (0 + y)) (none_down area (at_ (0 + l + x) (0 + y)) (omega (arith, ly)))) in
+    let below : area_sum g (0 + l) (0 + t + h) w under ≡ 0 = none_there g (0 + l) (0 + t + h) w under (λ x y lx ly. no_stored area f (at_ (0 + l + x) (0 + t + h + y)) (none_down area (at_ (0 + l + x) (0 + t + h + y)) (omega arith))) in
     let here : area_sum g (0 + l) (0 + t) w h ≡ area_sum f l t w h = area-same g f (0 + l) (0 + t) l t w h
     (λ x y lx ly.
     let p : At = at_ (l + x) (t + y) in
     let column : 0 + l + x ≡ l + x = omega arith in
     let row : 0 + t + y ≡ t + y = omega arith in
-    (λ i. held_of area f (at_ (column i) (row i))) ∙ all_held area f p (holds_in area p (record { left = omega arith; right = omega (arith, lx); top = omega arith; bottom = omega (arith, ly) }))) in
+    (λ i. stored_of area f (at_ (column i) (row i))) ∙ all_stored area f p (holds_in area p (record { left = omega arith; right = omega (arith, lx); top = omega arith; bottom = omega (arith, ly) }))) in
     let cut_columns = ap (λ (n : ℕ). area_sum g 0 0 n tall) columns ∙ area-columns g 0 0 l (w + right) tall in
     let cut_right = area-columns g (0 + l) 0 w right tall in
     let cut_rows = ap (λ (n : ℕ). area_sum g (0 + l) 0 w n) rows ∙ area-rows g (0 + l) 0 w t (h + under) in
@@ -121,9 +121,9 @@ holders areas p = sum_by (λ (area : Cut). holds area p) areas
 -- none of these holds the sample
 no_holder : (areas : List Cut) (p : At) → ((k : ℕ) → k < length areas → LiesWithin (area_at areas k) p → ⊥) → holders areas p ≡ 0
 no_holder [] p none = refl
-no_holder (area ∷ areas) p none = elim (held_or area p) [
-  | Held.inside lies ↦ absurd (none 0 (omega arith) lies)
-  | Held.outside out ↦ (let rest = no_holder areas p (λ k l lies. none (suc k) (omega (arith, l)) lies) in
+no_holder (area ∷ areas) p none = elim (stored_or area p) [
+  | Stored.inside lies ↦ absurd (none 0 (omega arith) lies)
+  | Stored.outside out ↦ (let rest = no_holder areas p (λ k l lies. none (suc k) (omega (arith, l)) lies) in
       let cons = sum_by-cons (λ (a : Cut). holds a p) area areas in omega (arith, cons, out, rest))
 ]
 
@@ -135,9 +135,9 @@ one_holder (area ∷ areas) p zero less lies alone =
     let cons = sum_by-cons (λ (a : Cut). holds a p) area areas in
     let here = holds_in area p lies in
     omega (arith, cons, here, rest)
-one_holder (area ∷ areas) p (suc k) less lies alone = elim (held_or area p) [
-  | Held.inside there ↦ absurd (let e = alone 0 (omega arith) there in omega (arith, e))
-  | Held.outside none ↦ (let rest = one_holder areas p k (omega (arith, less)) lies (λ j l there. let e = alone (suc j) (omega (arith, l)) there in omega (arith, e)) in
+one_holder (area ∷ areas) p (suc k) less lies alone = elim (stored_or area p) [
+  | Stored.inside there ↦ absurd (let e = alone 0 (omega arith) there in omega (arith, e))
+  | Stored.outside none ↦ (let rest = one_holder areas p k (omega (arith, less)) lies (λ j l there. let e = alone (suc j) (omega (arith, l)) there in omega (arith, e)) in
       let cons = sum_by-cons (λ (a : Cut). holds a p) area areas in omega (arith, cons, none, rest))
 ]
 
@@ -160,9 +160,9 @@ module _ (f : PageParts → At → ℕ) (sheet : PageParts) where
       let rest = by_holders areas (λ k d l. on (suc k) d (omega (arith, l))) in
       let one = one_area (f sheet) area (width sheet) (height sheet) first.across first.down in
       let cons = sum_by-cons (λ (a : Cut). area_sum (f sheet) a.left a.top a.width a.height) area areas in
-      let both = area_plus (held_of area (f sheet)) (λ p. holders areas p * f sheet p) (width sheet) (height sheet) in
-      let same : area_sum (λ p. holders (area ∷ areas) p * f sheet p) 0 0 (width sheet) (height sheet) ≡ area_sum (λ p. held_of area (f sheet) p + holders areas p * f sheet p) 0 0 (width sheet) (height sheet) =
-      area-same (λ p. holders (area ∷ areas) p * f sheet p) (λ p. held_of area (f sheet) p + holders areas p * f sheet p) 0 0 0 0 (width sheet) (height sheet)
+      let both = area_plus (stored_of area (f sheet)) (λ p. holders areas p * f sheet p) (width sheet) (height sheet) in
+      let same : area_sum (λ p. holders (area ∷ areas) p * f sheet p) 0 0 (width sheet) (height sheet) ≡ area_sum (λ p. stored_of area (f sheet) p + holders areas p * f sheet p) 0 0 (width sheet) (height sheet) =
+      area-same (λ p. holders (area ∷ areas) p * f sheet p) (λ p. stored_of area (f sheet) p + holders areas p * f sheet p) 0 0 0 0 (width sheet) (height sheet)
       (λ x y lx ly. let p : At = at_ (0 + x) (0 + y) in
       ap (λ (n : ℕ). n * f sheet p) (sum_by-cons (λ (a : Cut). holds a p) area areas) ∙ times_both (holds area p) (holders areas p) (f sheet p)) in
       omega (arith, cons, rest, one, both, same)

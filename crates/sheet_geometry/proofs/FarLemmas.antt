@@ -10,8 +10,8 @@ use Rattle.page_model.specs.declared.parts.Vertex.{Vertex}
 use Rattle.page_model.specs.declared.parts.Zone.{Zone}
 use Rattle.page_model.specs.Limits.{most_coordinate}
 use Rattle.page_model.specs.Page.{height, no_zone, path_at, width}
-use Rattle.sheet_geometry.specs.declared.refusal.SheetRefusal.TheVariants.{Far}
-use Rattle.sheet_geometry.specs.Refusals.{far, is_far}
+use Rattle.sheet_geometry.specs.declared.sheet_errors.SheetError.TheVariants.{Far}
+use Rattle.sheet_geometry.specs.CommonErrors.{far, is_far}
 use Rattle.sheet_geometry.specs.Sheets.{IsNearSheet, IsNearVertex}
 use Rattle.sheet_geometry.specs.Windows.{points_of}
 use Rattle.sheet_geometry.proofs.Pages.{any_default}

@@ -6,7 +6,7 @@ use Rattle.page_model.specs.declared.parts.PageParts.{PageParts}
 use Rattle.page_model.specs.Faults.{difference, too_wide}
 use Rattle.page_model.specs.Page.{plates}
 use Rattle.page_model.proofs.FaultLemmas.{agrees_from, near_from}
-use Rattle.sheet_geometry.specs.Refusals.{parts_fault}
+use Rattle.sheet_geometry.specs.CommonErrors.{parts_fault}
 use Rattle.sheet_geometry.specs.Sheets.{IsSheet, IsSheetParts}
 
 pub sheet_from : (sheet : PageParts) → IsSheetParts sheet → parts_fault sheet ≡ None → IsSheet sheet

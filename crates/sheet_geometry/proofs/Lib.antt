@@ -18,7 +18,7 @@ pub mod StepLemmas
 pub mod FarLemmas
 pub mod SizeLemmas
 pub mod FaultLemmas
-pub mod BareLemmas
+pub mod OutlineLemmas
 pub mod BegunLemmas
 pub mod CoreStripLemmas
 pub mod CoreLemmas

@@ -11,15 +11,15 @@ share most part n l =
     omega (arith, a, b)
 
 -- a window that is as small as may be has few samples
-pub least_few : (room plates : ℕ) → room ≤ 2304 → plates ≤ 16 → room * room * plates ≤ 160000000
-least_few room plates small few =
-    let a : room * room ≤ 2304 * 2304 = mul-le-mul small small in
-    let b : room * room * plates ≤ 2304 * 2304 * 16 = mul-le-mul a few in
+pub least_few : (workspace plates : ℕ) → workspace ≤ 2304 → plates ≤ 16 → workspace * workspace * plates ≤ 160000000
+least_few workspace plates small few =
+    let a : workspace * workspace ≤ 2304 * 2304 = mul-le-mul small small in
+    let b : workspace * workspace * plates ≤ 2304 * 2304 * 16 = mul-le-mul a few in
     omega (arith, b)
 
 -- what the greater of a number and of a lesser one is bounded by
-pub bounded : (r x other room w q : ℕ) → r ≡ max x other → x ≡ min w q → other ≡ room → r ≤ max room q
-bounded r x other room w q a b c = omega (arith, a, b, c)
+pub bounded : (r x other workspace w q : ℕ) → r ≡ max x other → x ≡ min w q → other ≡ workspace → r ≤ max workspace q
+bounded r x other workspace w q a b c = omega (arith, a, b, c)
 
 in_order : (a b c : ℕ) → a * b * c ≡ b * (a * c)
 in_order a b c = grind arith
@@ -40,13 +40,13 @@ rows_few columns rows plates r q least e l = elim (cases_lt rows r) [
 ]
 
 -- so many columns, with these rows, have few samples
-pub columns_few : (room rows plates samples r q : ℕ) → room * rows * plates ≤ 160000000 → samples ≤ 160000000 → q ≡ samples / (rows * plates) → r ≤ max room q → r * rows * plates ≤ 160000000
-columns_few room rows plates samples r q least few e l = elim (cases_lt room r) [
+pub columns_few : (workspace rows plates samples r q : ℕ) → workspace * rows * plates ≤ 160000000 → samples ≤ 160000000 → q ≡ samples / (rows * plates) → r ≤ max workspace q → r * rows * plates ≤ 160000000
+columns_few workspace rows plates samples r q least few e l = elim (cases_lt workspace r) [
   | inl more ↦ (let m : r ≤ q = omega (arith, l, more) in
       let t = share samples (rows * plates) r (subst (λ (n : ℕ). r ≤ n) e m) in
       let o = grouped r rows plates in
       omega (arith, t, o, few))
-  | inr less ↦ (let m : r * rows ≤ room * rows = mul-le-mul less (omega arith) in
-      let t : r * rows * plates ≤ room * rows * plates = mul-le-mul m (omega arith) in
+  | inr less ↦ (let m : r * rows ≤ workspace * rows = mul-le-mul less (omega arith) in
+      let t : r * rows * plates ≤ workspace * rows * plates = mul-le-mul m (omega arith) in
       omega (arith, t, least))
 ]

@@ -23,14 +23,14 @@ pub window_from_start : (ruler : Ruler) (at sub first wide : ℕ) → IsRuler ru
 window_from_start ruler at sub first wide is inside way es ef ew =
     let low : first ≤ sub = (let t = div-mul-le_self sub ruler.step in omega (arith, t, ef)) in
     let high : sub < first + ruler.step = (let t : sub < sub / ruler.step * ruler.step + ruler.step = lt-div-mul-add (let s = is.some_step in omega (arith, s)) in omega (arith, t, ef)) in
-    let room = is.room in
+    let workspace = is.workspace in
     record {
       begins = omega (arith, low, es);
       before = λ some. omega (arith, low, es, some);
       inside = omega (arith, low, es, ew, inside);
       small = omega (arith, ew);
-      some = omega (arith, low, high, es, ew, inside, room);
-      room = λ more. omega (arith, low, high, es, ew, inside, room, more);
+      some = omega (arith, low, high, es, ew, inside, workspace);
+      workspace = λ more. omega (arith, low, high, es, ew, inside, workspace, more);
       exact = chosen ruler.from_end (ruler.side - (first + wide)) first ruler.step way (ap (λ (n : ℕ). n % ruler.step) ef ∙ mod-multiple (sub / ruler.step) ruler.step is.some_step);
     }
 
@@ -52,15 +52,15 @@ record Ends (side at halo first most u : ℕ) : Type 0 where
   left : u ≤ side - first
   small : side - first - u ≤ most
   some : at < side - u
-  room : 0 < u → at + max 1 halo < side - u
+  workspace : 0 < u → at + max 1 halo < side - u
 
 ends : (side at halo step most first over u : ℕ) → at < side → first ≡ at - halo → over ≡ side - first - most → over ≤ u → u < over + step → (over ≡ 0 → u ≡ 0) → 2 * max 1 halo + step ≤ most → Ends side at halo first most u
-ends side at halo step most first over u inside ef eo low high none room = elim (cases_eq over 0) [
-  | inl e ↦ (let z = none e in record { left = omega (arith, z); small = omega (arith, e, eo, z); some = omega (arith, inside, z); room = λ more. absurd (omega (arith, more, z)) })
+ends side at halo step most first over u inside ef eo low high none workspace = elim (cases_eq over 0) [
+  | inl e ↦ (let z = none e in record { left = omega (arith, z); small = omega (arith, e, eo, z); some = omega (arith, inside, z); workspace = λ more. absurd (omega (arith, more, z)) })
   | inr ne ↦ (let long : first + most < side = omega (arith, ne, eo) in
       let all : over + first + most ≡ side = omega (arith, long, eo) in
       let near : at ≤ first + halo = omega (arith, ef) in
-      record { left = omega (arith, all, high, room); small = omega (arith, all, low); some = omega (arith, all, high, room, near); room = λ _. omega (arith, all, high, room, near) })
+      record { left = omega (arith, all, high, workspace); small = omega (arith, all, low); some = omega (arith, all, high, workspace, near); workspace = λ _. omega (arith, all, high, workspace, near) })
 ]
 
 -- a window that ends before a multiple of the step
@@ -71,7 +71,7 @@ window_from_end ruler at first over up is inside way ef eo eu =
     let low : over ≤ up * ruler.step = (let a = ups.0 in omega (arith, a, same)) in
     let high : up * ruler.step < over + ruler.step = (let a = ups.1 in omega (arith, a, same)) in
     let none : over ≡ 0 → up * ruler.step ≡ 0 = λ e. (let z : up ≡ 0 = eu ∙ ap (λ (n : ℕ). div_ceil n ruler.step) e ∙ no_steps ruler.step is.some_step in ap (λ (n : ℕ). n * ruler.step) z ∙ omega arith) in
-    let end = ends ruler.side at ruler.halo ruler.step ruler.most first over (up * ruler.step) inside ef eo low high none is.room in
+    let end = ends ruler.side at ruler.halo ruler.step ruler.most first over (up * ruler.step) inside ef eo low high none is.workspace in
     let left = end.left in
     let before : first ≤ ruler.side = omega (arith, ef, inside) in
     let there : ruler.side - (first + (ruler.side - first - up * ruler.step)) ≡ up * ruler.step = omega (arith, left, before) in
@@ -81,7 +81,7 @@ window_from_end ruler at first over up is inside way ef eo eu =
       inside = omega (arith, left, before);
       small = end.small;
       some = (let a = end.some in omega (arith, a, left, before));
-      room = λ more. (let a = end.room (omega (arith, more, left, before)) in omega (arith, a, left, before));
+      workspace = λ more. (let a = end.workspace (omega (arith, more, left, before)) in omega (arith, a, left, before));
       exact = chosen_end ruler.from_end (ruler.side - (first + (ruler.side - first - up * ruler.step))) first ruler.step way (ap (λ (n : ℕ). n % ruler.step) there ∙ mod-multiple up ruler.step is.some_step);
     }
 
@@ -93,19 +93,19 @@ record Evens (side most step wide up m : ℕ) : Type 0 where
   all : wide + up * step ≡ side
   some : 1 ≤ wide
   small : wide ≤ most
-  room : 0 < up * step → 2 * m + step ≤ wide
+  workspace : 0 < up * step → 2 * m + step ≤ wide
 
 evens : (side most step up over m : ℕ) → 1 ≤ side → 1 ≤ step → 1 ≤ m → 2 * m + step ≤ most → (most < side → 2 * m + 2 * step ≤ most + 1) → over ≡ side - most → up ≡ div_ceil over step → Evens side most step (side - up * step) up m
-evens side most step up over m some_side some some_halo least room eo eu = elim (cases_eq over 0) [
+evens side most step up over m some_side some some_halo least workspace eo eu = elim (cases_eq over 0) [
   | inl e ↦ (let z : up * step ≡ 0 = ap (λ (n : ℕ). n * step) (eu ∙ ap (λ (n : ℕ). div_ceil n step) e ∙ no_steps step some) ∙ omega arith in
-      record { fits = omega (arith, z); all = omega (arith, z); some = omega (arith, z, some_side); small = omega (arith, z, e, eo); room = λ more. absurd (omega (arith, more, z)) })
+      record { fits = omega (arith, z); all = omega (arith, z); some = omega (arith, z, some_side); small = omega (arith, z, e, eo); workspace = λ more. absurd (omega (arith, more, z)) })
   | inr ne ↦ (let ups = steps_up over step some in
       let same : up * step ≡ div_ceil over step * step = ap (λ (n : ℕ). n * step) eu in
       let low : over ≤ up * step = (let a = ups.0 in omega (arith, a, same)) in
       let high : up * step < over + step = (let a = ups.1 in omega (arith, a, same)) in
       let long : most < side = omega (arith, ne, eo) in
-      let two = room long in
-      record { fits = omega (arith, high, long, eo, least); all = omega (arith, high, long, eo, least); some = omega (arith, high, long, eo, least, some_halo); small = omega (arith, low, long, eo); room = λ _. omega (arith, high, long, eo, two) })
+      let two = workspace long in
+      record { fits = omega (arith, high, long, eo, least); all = omega (arith, high, long, eo, least); some = omega (arith, high, long, eo, least, some_halo); small = omega (arith, low, long, eo); workspace = λ _. omega (arith, high, long, eo, two) })
 ]
 
 -- the lesser of two multiples, and what is left of one of them after it
@@ -133,8 +133,8 @@ even_window ruler at sub first wide is inside es ew ef =
     let step = ruler.step in
     let some = is.ruler_is.some_step in
     let up : ℕ = div_ceil (ruler.side - ruler.most) step in
-    let s = evens ruler.side ruler.most step up (ruler.side - ruler.most) (max 1 ruler.halo) is.ruler_is.some_side some (omega arith) is.ruler_is.room is.room_for_two refl refl in
-    let fits = s.fits in let all = s.all in let small = s.small in let room = s.room in
+    let s = evens ruler.side ruler.most step up (ruler.side - ruler.most) (max 1 ruler.halo) is.ruler_is.some_side some (omega arith) is.ruler_is.workspace is.workspace_for_two refl refl in
+    let fits = s.fits in let all = s.all in let small = s.small in let workspace = s.workspace in
     let rest : ruler.side - wide ≡ up * step = omega (arith, ew, fits) in
     let there : first ≡ min (sub / step * step) (up * step) = ef ∙ ap (min (sub / step * step)) rest in
     let low : sub / step * step ≤ sub = div-mul-le_self sub step in
@@ -148,9 +148,9 @@ even_window ruler at sub first wide is inside es ew ef =
       small = omega (arith, small, ew);
       some = elim (cases_eq (up * step) 0) [
         | inl z ↦ omega (arith, ew, z, inside)
-        | inr ne ↦ (let r = room (omega (arith, ne)) in omega (arith, there, ew, fits, high, es, inside, r))
+        | inr ne ↦ (let r = workspace (omega (arith, ne)) in omega (arith, there, ew, fits, high, es, inside, r))
       ];
-      room = λ more. (let r = room (omega (arith, more, there, ew, fits)) in omega (arith, there, ew, fits, high, es, r, more));
+      workspace = λ more. (let r = workspace (omega (arith, more, there, ew, fits)) in omega (arith, there, ew, fits, high, es, r, more));
       exact = either ruler.from_end (ruler.side - (first + wide)) first step (ap (λ (n : ℕ). n % step) ends ∙ left_multiple (sub / step) up step some) (ap (λ (n : ℕ). n % step) there ∙ least_multiple (sub / step) up step some);
     }
 

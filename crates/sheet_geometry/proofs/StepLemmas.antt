@@ -6,8 +6,8 @@ use Rattle.lists.proofs.AnyBelow.{any_below-from}
 use Rattle.lists.proofs.FirstSome.{some_is_none}
 use Rattle.lists.proofs.Sums.{any_below-at}
 use Rattle.page_model.specs.declared.parts.PageParts.{PageParts}
-use Rattle.sheet_geometry.specs.declared.refusal.SheetRefusal.TheVariants.{Uncut}
-use Rattle.sheet_geometry.specs.Refusals.{has_step, uncut}
+use Rattle.sheet_geometry.specs.declared.sheet_errors.SheetError.TheVariants.{Uncut}
+use Rattle.sheet_geometry.specs.CommonErrors.{has_step, uncut}
 use Rattle.sheet_geometry.specs.Plans.{IsStep}
 
 found : (resolution step : ℕ) → 1 ≤ step → step ≤ 2048 → IsStep resolution step → has_step resolution ≡ true

@@ -11,8 +11,8 @@ pub mod Strips
 pub mod Forms
 pub mod Shown
 pub mod WindowSheets
-pub mod Refusals
-pub mod Bare
+pub mod CommonErrors
+pub mod Outline
 pub mod Planned
 pub mod Law
 pub mod Begun

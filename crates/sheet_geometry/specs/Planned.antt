@@ -7,7 +7,7 @@ use Rattle.page_model.specs.Limits.{most_samples}
 use Rattle.page_model.specs.Page.{plates}
 use Rattle.page_model.specs.Reach.{page_reach}
 use Rattle.sheet_geometry.specs.declared.budget.Budget.{Budget}
-use Rattle.sheet_geometry.specs.Refusals.{cut_fault, is_large, most_step}
+use Rattle.sheet_geometry.specs.CommonErrors.{cut_fault, is_large, most_step}
 use Rattle.sheet_geometry.specs.declared.plan.Least.{Least}
 use Rattle.sheet_geometry.specs.declared.plan.Plan.{Plan}
 use Rattle.sheet_geometry.specs.declared.plan.Plan.TheVariants.{Page, Strips, Windows}
@@ -25,52 +25,52 @@ pub record IsStepOf (sheet : PageParts) (step : ℕ) : Type 0 where
       → (k : ℕ) → 1 ≤ k → k < step → ¬ IsStep sheet.resolution k
 
 -- the least length of a window: a halo on each side, and a step beside
-abbrev pub room : Ruler → ℕ
-room ruler = 2 * max 1 ruler.halo + ruler.step
+abbrev pub workspace : Ruler → ℕ
+workspace ruler = 2 * max 1 ruler.halo + ruler.step
 
 -- the least rows of strips that all have as many: a halo above and below, and two steps less a row
-abbrev pub even_room : Ruler → ℕ
-even_room ruler = 2 * max 1 ruler.halo + 2 * ruler.step - 1
+abbrev pub even_workspace : Ruler → ℕ
+even_workspace ruler = 2 * max 1 ruler.halo + 2 * ruler.step - 1
 
 -- Rulers that a sheet can be cut by, within a budget. Its windows have at least `least` rows, and
 -- no more where the budget has fewer.
-pub record FitRulers (bare : PageParts) (budget : Budget) (least : ℕ) (rulers : Rulers)
+pub record FitRulers (outline : PageParts) (budget : Budget) (least : ℕ) (rulers : Rulers)
     : Type 0 where
-  pub fit : AreRulers bare rulers.across rulers.down
-  pub step_across : IsStepOf bare rulers.across.step
-  pub step_down : IsStepOf bare rulers.down.step
-  pub small : AreSmall bare rulers.across rulers.down
+  pub fit : AreRulers outline rulers.across rulers.down
+  pub step_across : IsStepOf outline rulers.across.step
+  pub step_down : IsStepOf outline rulers.down.step
+  pub small : AreSmall outline rulers.across rulers.down
   pub columns : IsRuler rulers.across
   pub rows : IsRuler rulers.down
   pub high : least ≤ rulers.down.most
   pub low : rulers.down.most ≤ max least budget.rows
-  pub few_samples : (rulers.across.most ≡ room rulers.across)
-      ⊎ (rulers.across.most * rulers.down.most * plates bare ≤ budget.samples)
+  pub few_samples : (rulers.across.most ≡ workspace rulers.across)
+      ⊎ (rulers.across.most * rulers.down.most * plates outline ≤ budget.samples)
 
 -- Strips of one height where the sheet can be cut. Windows, of all rows at once, where the least
 -- window of such a strip has more samples than a page. Where it cannot be cut, it is a page as it
 -- stands.
 abbrev pub IsPlan : PageParts → Budget → Plan → Type 0
-IsPlan bare budget (Strips rulers) = (cut_fault bare ≡ None)
-    × FitRulers bare budget (even_room rulers.down) rulers × IsEvenRuler rulers.down
-IsPlan bare budget (Windows rulers) = (cut_fault bare ≡ None)
-    × FitRulers bare budget (room rulers.down) rulers
-    × (most_samples < room rulers.across * even_room rulers.down * plates bare)
-IsPlan bare budget Page = IsSome (cut_fault bare) × (is_large bare ≡ false)
+IsPlan outline budget (Strips rulers) = (cut_fault outline ≡ None)
+    × FitRulers outline budget (even_workspace rulers.down) rulers × IsEvenRuler rulers.down
+IsPlan outline budget (Windows rulers) = (cut_fault outline ≡ None)
+    × FitRulers outline budget (workspace rulers.down) rulers
+    × (most_samples < workspace rulers.across * even_workspace rulers.down * plates outline)
+IsPlan outline budget Page = IsSome (cut_fault outline) × (is_large outline ≡ false)
 
 -- the halo and the step of a sheet, and the least sides of its windows by them
-pub record IsLeast (bare : PageParts) (least : Least) : Type 0 where
-  pub halo_is : least.halo ≡ halo (page_reach bare)
+pub record IsLeast (outline : PageParts) (least : Least) : Type 0 where
+  pub halo_is : least.halo ≡ halo (page_reach outline)
   pub near : least.halo ≤ 128
-  pub step_is : IsStepOf bare least.step
+  pub step_is : IsStepOf outline least.step
   pub short : least.step ≤ most_step
   pub columns_are : least.columns ≡ 2 * max 1 least.halo + least.step
   pub rows_are : least.rows ≡ 2 * max 1 least.halo + 2 * least.step - 1
 
 -- rulers by that halo and step, for windows of at least `rows` rows
-pub record IsCutBy (bare : PageParts) (budget : Budget) (least : Least) (rows : ℕ)
+pub record IsCutBy (outline : PageParts) (budget : Budget) (least : Least) (rows : ℕ)
     (rulers : Rulers) : Type 0 where
-  pub fits : FitRulers bare budget rows rulers
+  pub fits : FitRulers outline budget rows rulers
   pub halo_across : rulers.across.halo ≡ least.halo
   pub step_across : rulers.across.step ≡ least.step
   pub halo_down : rulers.down.halo ≡ least.halo

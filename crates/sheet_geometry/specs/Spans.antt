@@ -13,12 +13,12 @@ pub record IsRuler (ruler : Ruler) : Type 0 where
   pub few_samples : ruler.side < 2 ^ 30
   pub small_windows : ruler.most < 2 ^ 30
   pub some_step : 1 ≤ ruler.step
-  pub room : 2 * max 1 ruler.halo + ruler.step ≤ ruler.most
+  pub workspace : 2 * max 1 ruler.halo + ruler.step ≤ ruler.most
 
 -- a ruler by which windows that all have as many samples have room for a whole step
 pub record IsEvenRuler (ruler : Ruler) : Type 0 where
   pub ruler_is : IsRuler ruler
-  pub room_for_two : ruler.most < ruler.side
+  pub workspace_for_two : ruler.most < ruler.side
       → 2 * max 1 ruler.halo + 2 * ruler.step ≤ ruler.most + 1
 
 -- the samples of a window where all have as many: the side without as many whole steps as it takes
@@ -36,7 +36,7 @@ pub record IsWindow (ruler : Ruler) (at first wide : ℕ) : Type 0 where
   pub inside : first + wide ≤ ruler.side
   pub small : wide ≤ ruler.most
   pub some : at < first + wide
-  pub room : first + wide < ruler.side → at + max 1 ruler.halo < first + wide
+  pub workspace : first + wide < ruler.side → at + max 1 ruler.halo < first + wide
   pub exact : (if ruler.from_end then ruler.side - (first + wide) else first) % ruler.step ≡ 0
 
 -- A span whose core begins at a sample of the side. Where the side goes on after the window, the

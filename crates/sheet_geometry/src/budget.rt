@@ -21,7 +21,7 @@ pub fn most_rows(columns: u32, rows: u32, plates: u32, budget: &Budget) -> u32
     requires some_plates { 1 ≤ plates }
     requires few_plates { plates ≤ most_plates }
     requires few_samples { columns * rows * plates ≤ most_samples }
-    ensures room { rows ≤ result }
+    ensures workspace { rows ≤ result }
     ensures low { result ≤ most_side }
     ensures few_samples { columns * result * plates ≤ most_samples }
     ensures budget { result ≤ max rows budget.now.rows }
@@ -33,19 +33,19 @@ pub fn most_rows(columns: u32, rows: u32, plates: u32, budget: &Budget) -> u32
 }
 
 /// The most columns of a window with `rows` rows.
-pub fn most_columns(room: u32, rows: u32, plates: u32, budget: &Budget) -> u32
-    requires some_room { 1 ≤ room }
-    requires small_room { room ≤ 2304 }
+pub fn most_columns(workspace: u32, rows: u32, plates: u32, budget: &Budget) -> u32
+    requires some_workspace { 1 ≤ workspace }
+    requires small_workspace { workspace ≤ 2304 }
     requires some_rows { 1 ≤ rows }
     requires few_rows { rows ≤ most_side }
     requires some_plates { 1 ≤ plates }
     requires few_plates { plates ≤ most_plates }
-    requires few_samples { room * rows * plates ≤ most_samples }
-    ensures room { room ≤ result }
+    requires few_samples { workspace * rows * plates ≤ most_samples }
+    ensures workspace { workspace ≤ result }
     ensures narrow { result ≤ most_side }
     ensures few_samples { result * rows * plates ≤ most_samples }
-    ensures budget { (result ≡ room) ⊎ (result * rows * plates ≤ budget.now.samples) }
+    ensures budget { (result ≡ workspace) ⊎ (result * rows * plates ≤ budget.now.samples) }
 {
     let fit = budget.samples.min(MOST_SAMPLES) / (u64::from(rows) * u64::from(plates));
-    u64::from(MOST_SIDE).min(fit).max(u64::from(room)) as u32
+    u64::from(MOST_SIDE).min(fit).max(u64::from(workspace)) as u32
 }

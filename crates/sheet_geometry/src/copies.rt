@@ -5,12 +5,12 @@ ghost use Rattle.page_model.specs.declared.parts.Zone.{Zone};
 ghost use Rattle.page_model.specs.Conditions.{IsVertex};
 ghost use Rattle.sheet_geometry.specs.Windows.{moved_vertex, moved_zone};
 
+use crate::corners::vertex_of;
 use lists::list::List;
 use lists::names::copy_name;
 use page_model::parts::{
     Ink, InkList, Limit, LimitList, OutOfMemory, Vertex, VertexList, Zone, ZoneList,
 };
-use crate::corners::vertex_of;
 use std::alloc::Global;
 
 /// Adds the item at the end.

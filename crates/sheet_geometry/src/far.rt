@@ -4,21 +4,21 @@ ghost use Rattle.std.specs.Prelude.{◌≡◌, ◌<◌, ◌^◌, length};
 ghost use Rattle.std.specs.List.{list_any};
 ghost use Rattle.lists.specs.Words.{first_some, or_else};
 ghost use Rattle.page_model.specs.Page.{height, width};
-ghost use Rattle.sheet_geometry.specs.Refusals.{far, is_far_by};
-ghost use Rattle.sheet_geometry.specs.Bare.{IsBareSheet};
+ghost use Rattle.sheet_geometry.specs.CommonErrors.{far, is_far_by};
+ghost use Rattle.sheet_geometry.specs.Outline.{IsOutlineSheet};
 ghost use Rattle.sheet_geometry.specs.Windows.{points_of};
 
-use crate::refusal::SheetRefusal;
+use crate::corners::points;
+use crate::sheet_errors::SheetError;
 use page_model::bounds::MOST_COORDINATE;
 use page_model::parts::{PageParts, Vertex};
-use crate::corners::points;
 
 /// Returns `found`, or `later` where that is `None`.
-pub fn earlier(found: Option<SheetRefusal>, later: Option<SheetRefusal>) -> Option<SheetRefusal>
+pub fn earlier(found: Option<SheetError>, later: Option<SheetError>) -> Option<SheetError>
     ensures { result ≡ or_else found later }
 {
     match found {
-        Some(refusal) => Some(refusal),
+        Some(error) => Some(error),
         None => later,
     }
 }
@@ -48,7 +48,7 @@ fn has_far(path: &[Vertex], wide: u64, tall: u64) -> bool
 
 /// The sides of a sheet in ten-thousandths of a point.
 fn sides_of(sheet: &PageParts) -> (u64, u64)
-    requires sheet { IsBareSheet sheet.now }
+    requires sheet { IsOutlineSheet sheet.now }
     requires narrow { width sheet.now < 2 ^ 30 }
     requires low { height sheet.now < 2 ^ 30 }
     ensures wide { result.0 ≡ points_of sheet.now.resolution (width sheet.now) }
@@ -63,7 +63,7 @@ fn sides_of(sheet: &PageParts) -> (u64, u64)
 }
 
 /// Whether zone z has such a vertex.
-fn far_at(sheet: &PageParts, z: u32, wide: u64, tall: u64) -> Option<SheetRefusal>
+fn far_at(sheet: &PageParts, z: u32, wide: u64, tall: u64) -> Option<SheetError>
     requires zone { z < length sheet.now.zones }
     requires wide { wide ≡ points_of sheet.now.resolution (width sheet.now) }
     requires tall { tall ≡ points_of sheet.now.resolution (height sheet.now) }
@@ -73,15 +73,15 @@ fn far_at(sheet: &PageParts, z: u32, wide: u64, tall: u64) -> Option<SheetRefusa
 {
     let zones = sheet.zones.as_slice();
     if has_far(zones[z as usize].path.as_slice(), wide, tall) {
-        Some(SheetRefusal::Far(z))
+        Some(SheetError::Far(z))
     } else {
         None
     }
 }
 
-/// The refusal of the first zone with a vertex too far from a corner of the sheet.
-pub fn first_far(sheet: &PageParts) -> Option<SheetRefusal>
-    requires sheet { IsBareSheet sheet.now }
+/// The error of the first zone with a vertex too far from a corner of the sheet.
+pub fn first_far(sheet: &PageParts) -> Option<SheetError>
+    requires sheet { IsOutlineSheet sheet.now }
     requires narrow { width sheet.now < 2 ^ 30 }
     requires low { height sheet.now < 2 ^ 30 }
     ensures { result ≡ first_some (far sheet.now) (length sheet.now.zones) }

@@ -7,11 +7,11 @@ ghost use Rattle.page_model.specs.Faults.{too_wide};
 ghost use Rattle.page_model.specs.Limits.{most_reach};
 ghost use Rattle.page_model.specs.Page.{height, width};
 ghost use Rattle.page_model.specs.Reach.{page_reach, zone_reach};
-ghost use Rattle.sheet_geometry.specs.Refusals.{cut_fault, is_large, parts_fault};
-ghost use Rattle.sheet_geometry.specs.Bare.{IsBareSheet, IsBareParts};
+ghost use Rattle.sheet_geometry.specs.CommonErrors.{cut_fault, is_large, parts_fault};
+ghost use Rattle.sheet_geometry.specs.Outline.{IsOutlineSheet, IsOutlineParts};
 
 use crate::far::{earlier, first_far};
-use crate::refusal::SheetRefusal;
+use crate::sheet_errors::SheetError;
 use crate::steps::uncut_of;
 use page_model::bounds::{MOST_REACH, MOST_SAMPLES, MOST_SIDE};
 use page_model::page::{PageFault, first_difference};
@@ -20,7 +20,7 @@ use page_model::reach::reach_of;
 
 /// Whether a sheet is above the limits of a page.
 pub fn is_large_sheet(sheet: &PageParts) -> bool
-    requires sheet { IsBareSheet sheet.now }
+    requires sheet { IsOutlineSheet sheet.now }
     requires narrow { width sheet.now < 2 ^ 30 }
     requires low { height sheet.now < 2 ^ 30 }
     ensures { result ≡ is_large sheet.now }
@@ -34,8 +34,8 @@ pub fn is_large_sheet(sheet: &PageParts) -> bool
 }
 
 /// Why a sheet can't be cut: the first zone with a vertex too far from a corner, or else the step; `None` where it can.
-pub fn cut_fault_of(sheet: &PageParts) -> Option<SheetRefusal>
-    requires sheet { IsBareSheet sheet.now }
+pub fn cut_fault_of(sheet: &PageParts) -> Option<SheetError>
+    requires sheet { IsOutlineSheet sheet.now }
     requires narrow { width sheet.now < 2 ^ 30 }
     requires low { height sheet.now < 2 ^ 30 }
     ensures { result ≡ cut_fault sheet.now }
@@ -45,7 +45,7 @@ pub fn cut_fault_of(sheet: &PageParts) -> Option<SheetRefusal>
 
 /// The reach of a zone in half-samples, 0 where it is disabled.
 fn zone_reach_of(sheet: &PageParts, z: u32) -> u32
-    requires parts { IsBareParts sheet.now }
+    requires parts { IsOutlineParts sheet.now }
     requires zone { z < length sheet.now.zones }
     ensures { result ≡ zone_reach sheet.now z }
 {
@@ -60,7 +60,7 @@ fn zone_reach_of(sheet: &PageParts, z: u32) -> u32
 
 /// The fault of a zone that reaches too far.
 fn width_fault(sheet: &PageParts, z: u32) -> Option<PageFault>
-    requires parts { IsBareParts sheet.now }
+    requires parts { IsOutlineParts sheet.now }
     requires zone { z < length sheet.now.zones }
     ensures { result ≡ too_wide sheet.now z }
 {
@@ -82,7 +82,7 @@ fn earlier_fault(found: Option<PageFault>, later: Option<PageFault>) -> Option<P
 
 /// The first zone that reaches too far.
 fn first_wide(sheet: &PageParts) -> Option<PageFault>
-    requires { IsBareParts sheet.now }
+    requires { IsOutlineParts sheet.now }
     ensures { result ≡ first_some (too_wide sheet.now) (length sheet.now.zones) }
 {
     let mut found = None;
@@ -94,7 +94,7 @@ fn first_wide(sheet: &PageParts) -> Option<PageFault>
 
 /// The fault that the sheet would have as a page, apart from the number of samples.
 pub fn parts_fault_of(sheet: &PageParts) -> Option<PageFault>
-    requires { IsBareParts sheet.now }
+    requires { IsOutlineParts sheet.now }
     ensures { result ≡ parts_fault sheet.now }
 {
     earlier_fault(first_difference(sheet), first_wide(sheet))
@@ -103,7 +103,7 @@ pub fn parts_fault_of(sheet: &PageParts) -> Option<PageFault>
 /// The reach of a sheet in half-samples: the greatest reach of its enabled zones.
 #[tactic(auto, unfolding(page_model::specs::Reach::page_reach))]
 fn reach_of_sheet(sheet: &PageParts) -> u32
-    requires { IsBareSheet sheet.now }
+    requires { IsOutlineSheet sheet.now }
     ensures value { result ≡ page_reach sheet.now }
     ensures near { result ≤ most_reach }
 {
@@ -116,7 +116,7 @@ fn reach_of_sheet(sheet: &PageParts) -> u32
 
 /// The halo of a sheet, in samples, by which a window goes on beyond its core: half the reach, rounded up.
 pub fn halo_of(sheet: &PageParts) -> u32
-    requires { IsBareSheet sheet.now }
+    requires { IsOutlineSheet sheet.now }
     ensures value { result ≡ halo (page_reach sheet.now) }
     ensures few { result ≤ 128 }
 {

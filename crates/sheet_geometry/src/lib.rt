@@ -12,7 +12,7 @@ pub mod laws;
 pub mod plan;
 mod planes;
 pub mod refill;
-pub mod refusal;
+pub mod sheet_errors;
 pub mod size_laws;
 pub mod spans;
 mod steps;

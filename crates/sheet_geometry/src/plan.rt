@@ -5,18 +5,18 @@ ghost use Rattle.page_model.specs.Columns.{halo};
 ghost use Rattle.page_model.specs.Limits.{most_plates, most_samples, most_side};
 ghost use Rattle.page_model.specs.Page.{height, plates, width};
 ghost use Rattle.page_model.specs.Reach.{page_reach};
-ghost use Rattle.sheet_geometry.specs.Refusals.{cut_fault, large_fault, most_step, sheet_refusal, uncut};
+ghost use Rattle.sheet_geometry.specs.CommonErrors.{cut_fault, large_fault, most_step, sheet_error, uncut};
 ghost use Rattle.sheet_geometry.specs.Plans.{IsStep};
 ghost use Rattle.sheet_geometry.specs.Planned.{IsLeast, FitRulers, IsCutBy, IsPlan};
-ghost use Rattle.sheet_geometry.specs.Bare.{IsBareSheet, IsBareParts};
+ghost use Rattle.sheet_geometry.specs.Outline.{IsOutlineSheet, IsOutlineParts};
 
 use crate::budget::{Budget, most_columns, most_rows};
 use crate::judging::{cut_fault_of, halo_of, is_large_sheet, parts_fault_of};
-use crate::refusal::SheetRefusal;
+use crate::sheet_errors::SheetError;
+use crate::spans::Ruler;
 use crate::steps::sheet_step;
 use page_model::bounds::MOST_SAMPLES;
 use page_model::parts::PageParts;
-use crate::spans::Ruler;
 
 // A window of fewer columns is not worth its cost.
 const NARROW: u32 = 128;
@@ -42,36 +42,36 @@ pub enum Plan {
 /// Decides how a sheet is trapped within a budget for each window, or returns the first of its faults: of the first
 /// plate that differs from plate 0, then of the first zone that reaches too far, and then, above the limits of a page,
 /// of the first zone with a vertex too far from a corner of the sheet, and of the step. No tint is read.
-#[tactic(auto, using(crate::proofs::BareLemmas::bare_from))]
-pub fn plan_sheet(sheet: &PageParts, budget: &Budget) -> Result<Plan, SheetRefusal>
-    requires parts { IsBareParts sheet.now }
+#[tactic(auto, using(crate::proofs::OutlineLemmas::outline_from))]
+pub fn plan_sheet(sheet: &PageParts, budget: &Budget) -> Result<Plan, SheetError>
+    requires parts { IsOutlineParts sheet.now }
     requires narrow { width sheet.now < 2 ^ 30 }
     requires low { height sheet.now < 2 ^ 30 }
     ensures plan { IfOk result (IsPlan sheet.now budget.now) }
-    ensures accepted { OnOk result (sheet_refusal sheet.now ≡ None) }
-    ensures valid { OnOk result (IsBareSheet sheet.now) }
-    ensures refused { IfErr result (λ refusal. sheet_refusal sheet.now ≡ Some refusal) }
+    ensures accepted { OnOk result (sheet_error sheet.now ≡ None) }
+    ensures valid { OnOk result (IsOutlineSheet sheet.now) }
+    ensures refused { IfErr result (λ error. sheet_error sheet.now ≡ Some error) }
 {
     match parts_fault_of(sheet) {
-        Some(fault) => Err(SheetRefusal::Fault(fault)),
+        Some(fault) => Err(SheetError::Fault(fault)),
         None => plan_without_fault(sheet, budget),
     }
 }
 
 // How a sheet without a fault of a page is trapped, or why it can't be.
-fn plan_without_fault(sheet: &PageParts, budget: &Budget) -> Result<Plan, SheetRefusal>
-    requires sheet { IsBareSheet sheet.now }
+fn plan_without_fault(sheet: &PageParts, budget: &Budget) -> Result<Plan, SheetError>
+    requires sheet { IsOutlineSheet sheet.now }
     requires narrow { width sheet.now < 2 ^ 30 }
     requires low { height sheet.now < 2 ^ 30 }
     ensures plan { IfOk result (IsPlan sheet.now budget.now) }
     ensures accepted { OnOk result (large_fault sheet.now ≡ None) }
-    ensures refused { IfErr result (λ refusal. large_fault sheet.now ≡ Some refusal) }
+    ensures refused { IfErr result (λ error. large_fault sheet.now ≡ Some error) }
 {
     match cut_fault_of(sheet) {
         None => Ok(plan_cut(sheet, budget)),
-        Some(refusal) => {
+        Some(error) => {
             if is_large_sheet(sheet) {
-                Err(refusal)
+                Err(error)
             } else {
                 Ok(Plan::Page)
             }
@@ -91,7 +91,7 @@ struct Least {
 
 // How a sheet that can be cut is trapped.
 fn plan_cut(sheet: &PageParts, budget: &Budget) -> Plan
-    requires sheet { IsBareSheet sheet.now }
+    requires sheet { IsOutlineSheet sheet.now }
     requires narrow { width sheet.now < 2 ^ 30 }
     requires low { height sheet.now < 2 ^ 30 }
     requires cut { cut_fault sheet.now ≡ None }
@@ -101,7 +101,7 @@ fn plan_cut(sheet: &PageParts, budget: &Budget) -> Plan
 }
 
 fn least_of(sheet: &PageParts) -> Least
-    requires sheet { IsBareSheet sheet.now }
+    requires sheet { IsOutlineSheet sheet.now }
     requires cut { cut_fault sheet.now ≡ None }
     ensures { IsLeast sheet.now result }
 {
@@ -109,7 +109,7 @@ fn least_of(sheet: &PageParts) -> Least
 }
 
 fn least_by(sheet: &PageParts) -> Least
-    requires sheet { IsBareSheet sheet.now }
+    requires sheet { IsOutlineSheet sheet.now }
     requires cut { uncut sheet.now ≡ None }
     ensures { IsLeast sheet.now result }
 {
@@ -125,7 +125,7 @@ fn least_by(sheet: &PageParts) -> Least
 }
 
 fn plan_by(sheet: &PageParts, least: Least, budget: &Budget) -> Plan
-    requires sheet { IsBareSheet sheet.now }
+    requires sheet { IsOutlineSheet sheet.now }
     requires narrow { width sheet.now < 2 ^ 30 }
     requires low { height sheet.now < 2 ^ 30 }
     requires cut { cut_fault sheet.now ≡ None }
@@ -143,11 +143,11 @@ fn plan_by(sheet: &PageParts, least: Least, budget: &Budget) -> Plan
 
 // The rulers within a budget for windows of at least `rows` rows.
 fn rulers_of(sheet: &PageParts, least: Least, rows: u32, budget: &Budget) -> Rulers
-    requires sheet { IsBareSheet sheet.now }
+    requires sheet { IsOutlineSheet sheet.now }
     requires narrow { width sheet.now < 2 ^ 30 }
     requires low { height sheet.now < 2 ^ 30 }
     requires least { IsLeast sheet.now least }
-    requires room { least.columns ≤ rows }
+    requires workspace { least.columns ≤ rows }
     requires few_rows { rows ≤ most_side }
     requires few_samples { least.columns * rows * plates sheet.now ≤ most_samples }
     ensures { IsCutBy sheet.now budget.now least rows result }
@@ -179,13 +179,13 @@ fn columns_for(side: u32, least: Least, rows: u32, plates: u32, budget: &Budget)
     requires side { side < 2 ^ 30 }
     requires some_step { 1 ≤ least.step }
     requires columns { least.columns ≡ 2 * max 1 least.halo + least.step }
-    requires small_room { least.columns ≤ 2304 }
+    requires small_workspace { least.columns ≤ 2304 }
     requires some_rows { 1 ≤ rows }
     requires few_rows { rows ≤ most_side }
     requires some_plates { 1 ≤ plates }
     requires few_plates { plates ≤ most_plates }
     requires few_samples { least.columns * rows * plates ≤ most_samples }
-    ensures room { least.columns ≤ result }
+    ensures workspace { least.columns ≤ result }
     ensures narrow { result ≤ most_side }
     ensures few_samples { result * rows * plates ≤ most_samples }
     ensures budget { (result ≡ least.columns) ⊎ (result * rows * plates ≤ budget.now.samples) }
@@ -200,9 +200,9 @@ fn columns_for(side: u32, least: Least, rows: u32, plates: u32, budget: &Budget)
 fn even_columns(side: u32, least: u32, most: u32) -> u32
     requires side { side < 2 ^ 30 }
     requires some { 1 ≤ least }
-    requires room { least ≤ most }
+    requires workspace { least ≤ most }
     requires narrow { most ≤ most_side }
-    ensures room { least ≤ result }
+    ensures workspace { least ≤ result }
     ensures few { result ≤ most }
 {
     let beside = least - 1;

@@ -6,9 +6,9 @@ ghost use Rattle.sheet_geometry.specs.Windows.{shown_plane};
 ghost use Rattle.sheet_geometry.specs.Shown.{Covers, shown_tints};
 
 use crate::copies::push;
+use crate::cuts::Cut;
 use lists::list::List;
 use page_model::parts::{OutOfMemory, Plane, PlaneList, Tints};
-use crate::cuts::Cut;
 use std::alloc::Global;
 
 /// Returns `tints[from..from + count]`.

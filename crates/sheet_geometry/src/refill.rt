@@ -10,11 +10,11 @@ ghost use Rattle.sheet_geometry.specs.Windows.{moved_vertex, moved_zone, shown_p
 ghost use Rattle.sheet_geometry.specs.Forms.{zone_form};
 ghost use Rattle.sheet_geometry.specs.Shown.{Covers, shown_tints};
 
+use crate::corners::vertex_of;
+use crate::cuts::Cut;
 use crate::planes::run_of;
 use lists::list::List;
 use page_model::parts::{Plane, PlaneList, Vertex, VertexList, Zone, ZoneList};
-use crate::corners::vertex_of;
-use crate::cuts::Cut;
 use std::alloc::Global;
 
 /// Writes a row to `tints`, from one place on.

@@ -4,10 +4,10 @@ ghost use Rattle.std.specs.Prelude.{◌≡◌, ◌+◌, ◌<◌, ◌≤◌, ◌^
 ghost use Rattle.page_model.specs.declared.parts.PageParts.{PageParts};
 ghost use Rattle.page_model.specs.declared.parts.Plane.{Plane};
 ghost use Rattle.page_model.specs.Page.{height, width};
-ghost use Rattle.sheet_geometry.specs.Refusals.{cut_fault};
+ghost use Rattle.sheet_geometry.specs.CommonErrors.{cut_fault};
 ghost use Rattle.sheet_geometry.specs.Begun.{BeginsEarlier, BeginsWith, MayBegin};
-ghost use Rattle.sheet_geometry.specs.Law.{BareLaw};
-ghost use Rattle.sheet_geometry.specs.Bare.{IsFull, IsBareSheet, bare_sheet};
+ghost use Rattle.sheet_geometry.specs.Law.{OutlineLaw};
+ghost use Rattle.sheet_geometry.specs.Outline.{IsFull, IsOutlineSheet, outline_sheet};
 ghost use Rattle.sheet_geometry.specs.StripCores.{StripCoreLaw};
 ghost use Rattle.sheet_geometry.specs.StripRows.{HoldRows};
 ghost use Rattle.sheet_geometry.specs.declared.spans.Ruler.{Ruler};
@@ -19,13 +19,13 @@ ghost use Rattle.sheet_geometry.specs.Strips.{strip_parts};
 ghost use Rattle.sheet_geometry.specs.WindowSheets.{IsCuttable};
 
 /// The checks of a sheet before its tints are read depend on all of it but its tints.
-pub fn bare_law()
-    ensures { (sheet : PageParts) → BareLaw sheet }
+pub fn outline_law()
+    ensures { (sheet : PageParts) → OutlineLaw sheet }
 {}
 
 /// With a tint for each of its samples, a bare sheet is a sheet.
 pub fn full_law()
-    ensures { (sheet : PageParts) → IsBareSheet (bare_sheet sheet) → All IsFull sheet.planes
+    ensures { (sheet : PageParts) → IsOutlineSheet (outline_sheet sheet) → All IsFull sheet.planes
         → IsSheet sheet }
 {}
 
@@ -37,8 +37,8 @@ pub fn cuttable_law()
 
 /// For each bare sheet there is a sheet, whatever its planes begin with.
 pub fn some_sheet_law()
-    ensures { (bare : PageParts) (tints : ℕ → List ℕ) → IsBareSheet bare → bare_sheet bare ≡ bare
-        → MayBegin bare tints → (sheet : PageParts) × BeginsWith bare tints sheet }
+    ensures { (outline : PageParts) (tints : ℕ → List ℕ) → IsOutlineSheet outline → outline_sheet outline ≡ outline
+        → MayBegin outline tints → (sheet : PageParts) × BeginsWith outline tints sheet }
 {}
 
 /// A sheet that begins with some tints begins with each prefix of them.

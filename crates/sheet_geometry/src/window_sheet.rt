@@ -8,12 +8,12 @@ ghost use Rattle.sheet_geometry.specs.Forms.{form_of};
 ghost use Rattle.sheet_geometry.specs.WindowSheets.{IsCuttable};
 
 use crate::copies::{inks_of, zones_of};
+use crate::corners::{Corner, corner_of};
+use crate::cuts::Cut;
 use crate::planes::planes_of;
 use crate::refill::{move_zones, show_planes};
 use page_model::page::Page;
 use page_model::parts::{OutOfMemory, PageParts};
-use crate::corners::{Corner, corner_of};
-use crate::cuts::Cut;
 use std::alloc::Global;
 use std::marker::Model;
 

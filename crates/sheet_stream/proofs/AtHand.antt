@@ -11,7 +11,7 @@ use Rattle.sheet_stream.specs.Going.{IsStripRow, core_top}
 use Rattle.sheet_stream.specs.Strips.{CanBeCut, CanStream}
 use Rattle.sheet_stream.proofs.OnSheets.{cuttable, height_same, rulers_same, small_same}
 use Rattle.sheet_stream.specs.Holding.{HoldRowsFrom}
-use Rattle.sheet_stream.specs.HeldStrips.{IsStripOf}
+use Rattle.sheet_stream.specs.StoredStrips.{IsStripOf}
 use Rattle.sheet_stream.proofs.HoldLemmas.{strip_made}
 use Rattle.sheet_stream.proofs.TurnLemmas.{have_form}
 use Rattle.sheet_geometry.specs.declared.spans.Span.{Span}
@@ -30,44 +30,44 @@ form_same : (one two : PageParts) → plates one ≡ plates two → one.inks ≡
 unfolding form_of
 form_same one two deep inks zones = λ i. record { deep = deep i; inks = inks i; zones = zones i }
 
-module _ (bare : PageParts) (plan : StripPlan) (row : Span) (strip : PageParts) (can : CanStream bare plan) (is : IsStripRow plan.down row) (strip_is : IsStripOf bare row strip) (tints : ℕ → List ℕ) (held : HoldRowsFrom bare row.from row.wide tints strip.planes) where
-  pub inside : row.from + row.wide ≤ height bare
+module _ (outline : PageParts) (plan : StripPlan) (row : Span) (strip : PageParts) (can : CanStream outline plan) (is : IsStripRow plan.down row) (strip_is : IsStripOf outline row strip) (tints : ℕ → List ℕ) (stored : HoldRowsFrom outline row.from row.wide tints strip.planes) where
+  pub inside : row.from + row.wide ≤ height outline
   inside = (let a = is.span.inside in let t = can.rulers.tall in omega (arith, a, t))
 
-  pub core_inside : core_top row + row.core ≤ height bare
+  pub core_inside : core_top row + row.core ≤ height outline
   core_inside = (let b = is.span.core in let d = inside in omega (arith, b, d))
 
-  some_plate : 0 < plates bare
+  some_plate : 0 < plates outline
   some_plate = (let s = can.valid.parts.some_plates in omega (arith, s))
 
-  pub strip_wide : width strip ≡ width bare
-  strip_wide = held.wide 0 some_plate
+  pub strip_wide : width strip ≡ width outline
+  strip_wide = stored.wide 0 some_plate
 
-  pub strip_form : form_of strip ≡ form_of bare
-  strip_form = form_same strip bare held.count strip_is.inks (have_form bare row strip strip_is)
+  pub strip_form : form_of strip ≡ form_of outline
+  strip_form = form_same strip outline stored.count strip_is.inks (have_form outline row strip strip_is)
 
-  pub made : (sheet : PageParts) → BeginsWith bare tints sheet → strip ≡ strip_parts sheet row
-  made sheet begins = strip_made bare sheet row tints strip strip_is held begins (let e = height_same bare sheet tints begins in let i = inside in omega (arith, e, i))
+  pub made : (sheet : PageParts) → BeginsWith outline tints sheet → strip ≡ strip_parts sheet row
+  made sheet begins = strip_made outline sheet row tints strip strip_is stored begins (let e = height_same outline sheet tints begins in let i = inside in omega (arith, e, i))
 
   -- some sheet begins so
-  module _ (may : MayBegin bare tints) where
-    pub some : (sheet : PageParts) × BeginsWith bare tints sheet
-    some = some_sheet bare tints can.valid can.blank may
+  module _ (may : MayBegin outline tints) where
+    pub some : (sheet : PageParts) × BeginsWith outline tints sheet
+    some = some_sheet outline tints can.valid can.blank may
 
     abbrev pub sheet : PageParts
     sheet = some.0
 
-    pub begins : BeginsWith bare tints sheet
+    pub begins : BeginsWith outline tints sheet
     begins = some.1
 
     pub cut_is : IsCuttable sheet
-    cut_is = cuttable bare sheet tints begins can.cut can.narrow can.low
+    cut_is = cuttable outline sheet tints begins can.cut can.narrow can.low
 
     pub rulers : AreRulers sheet plan.across plan.down
-    rulers = rulers_same bare sheet tints begins plan.across plan.down can.rulers
+    rulers = rulers_same outline sheet tints begins plan.across plan.down can.rulers
 
     pub small : AreSmall sheet plan.across plan.down
-    small = small_same bare sheet tints begins plan.across plan.down can.small
+    small = small_same outline sheet tints begins plan.across plan.down can.small
 
     some_wide : 1 ≤ width sheet
     some_wide = (begins.valid.parts.planes_in_range 0 no_plane (let p = begins.valid.parts.some_plates in omega (arith, p))).some_width

@@ -21,17 +21,17 @@ module _ (down : Ruler) (p : Progress) (span : Span) (from : ℕ) (is : IsProgre
       let inside : p.from + tall ≤ down.side = subst (λ (n : ℕ). p.from + n ≤ down.side) (sym wide) placed.inside in
       let exact : (if down.from_end then down.side - (p.from + tall) else p.from) % down.step ≡ 0 = subst (λ (n : ℕ). (if down.from_end then down.side - (p.from + n) else p.from) % down.step ≡ 0) (sym wide) placed.exact in
       let halo = placed.halo in
-      let held = is.held in
+      let stored = is.stored in
       let begins = span_is.begins in
       let core = span_is.core in
       record {
-        begins = omega (arith, same, held);
+        begins = omega (arith, same, stored);
         some = span_is.some;
-        core = omega (arith, same, held, begins, core, above);
+        core = omega (arith, same, stored, begins, core, above);
         inside = omega (arith, same, inside);
         small = span_is.small;
         before = λ more. omega (arith, same, halo, more);
-        after = λ more. (let room = span_is.after (omega (arith, same, inside, above, more)) in omega (arith, same, held, begins, room, above));
+        after = λ more. (let workspace = span_is.after (omega (arith, same, inside, above, more)) in omega (arith, same, stored, begins, workspace, above));
         exact = subst (λ (n : ℕ). (if down.from_end then down.side - (n + span.wide) else n) % down.step ≡ 0) (sym same) exact;
       }
 
@@ -48,7 +48,7 @@ module _ (down : Ruler) (p : Progress) (span : Span) (from : ℕ) (is : IsProgre
         inside = omega (arith, same, inside);
         small = span_is.small;
         before = λ more. (let halo = span_is.before (omega (arith, same, more)) in omega (arith, same, begins, halo));
-        after = λ more. (let room = span_is.after (omega (arith, same, more)) in omega (arith, same, begins, room));
+        after = λ more. (let workspace = span_is.after (omega (arith, same, more)) in omega (arith, same, begins, workspace));
         exact = subst (λ (n : ℕ). (if down.from_end then down.side - (n + span.wide) else n) % down.step ≡ 0) (sym same) span_is.exact;
       }
 
@@ -60,7 +60,7 @@ module _ (down : Ruler) (p : Progress) (span : Span) (from : ℕ) (is : IsProgre
     span = row_is;
     wide = wide;
     below = omega (arith, from_is);
-    above = (let begins = span_is.begins in let held = is.held in let known = is.known in omega (arith, from_is, begins, held, known));
+    above = (let begins = span_is.begins in let stored = is.stored in let known = is.known in omega (arith, from_is, begins, stored, known));
   }
 
 pub goes_on : (down : Ruler) (row : Span) → IsStripRow down row → IsProgress down (gone_on row)
@@ -70,7 +70,7 @@ goes_on down row is =
     let inside = span.inside in
     record {
       inside = inside;
-      held = omega arith;
+      stored = omega arith;
       known = omega (arith, core);
       placed = λ more. record {
         inside = subst (λ (n : ℕ). row.from + n ≤ down.side) is.wide inside;

@@ -17,5 +17,5 @@ pub mod StepLemmas
 pub mod AwaitLemmas
 pub mod StreamLemmas
 pub mod SecondLemmas
-pub mod HeldLemmas
-pub mod RoomLemmas
+pub mod StoredLemmas
+pub mod WorkspaceLemmas

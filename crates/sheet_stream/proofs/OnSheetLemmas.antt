@@ -11,7 +11,7 @@ use Rattle.pgm_plates.specs.Rows.{HasWritten}
 use Rattle.plate_rows.specs.Images.{BreaksRows}
 use Rattle.plate_rows.specs.Racks.{rack_at}
 use Rattle.plate_rows.specs.Trays.{name_at}
-use Rattle.refusals.specs.declared.refusal.Refusal.TheVariants.{Write}
+use Rattle.common_errors.specs.declared.common.CommonError.TheVariants.{Write}
 use Rattle.sheet_stream.specs.Growing.{new_rows}
 use Rattle.sheet_stream.specs.Writing.{RowsAreWritten}
 use Rattle.sheet_geometry.specs.declared.spans.Ruler.{Ruler}

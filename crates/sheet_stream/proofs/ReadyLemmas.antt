@@ -7,11 +7,11 @@ use Rattle.sheet_geometry.specs.declared.spans.Span.{Span}
 use Rattle.sheet_geometry.specs.Plans.{AreRulers}
 use Rattle.sheet_geometry.specs.Spans.{IsSpan}
 use Rattle.sheet_stream.specs.declared.parts.StripPlan.{StripPlan}
-use Rattle.sheet_engine.specs.declared.room.StripRoom.{StripRoom}
+use Rattle.sheet_engine.specs.declared.workspace.StripWorkspace.{StripWorkspace}
 use Rattle.sheet_stream.specs.Ready.{IsTrappable}
 use Rattle.sheet_engine.specs.declared.counts.SheetCounts.{SheetCounts}
 
-module _ (plan : StripPlan) (row : Span) (strip : PageParts) (room : StripRoom) (counts : SheetCounts) (is : IsTrappable plan row strip room counts) where
+module _ (plan : StripPlan) (row : Span) (strip : PageParts) (workspace : StripWorkspace) (counts : SheetCounts) (is : IsTrappable plan row strip workspace counts) where
   core : StripCoreLaw is.sheet plan.across plan.down is.at row
   core = core_law is.sheet plan.across plan.down is.at row is.valid is.near is.rulers is.span
 

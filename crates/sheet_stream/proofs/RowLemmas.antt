@@ -20,8 +20,8 @@ use Rattle.plate_rows.specs.Images.{BreaksRows, HaveWritten, WritesNext, part_at
 use Rattle.plate_rows.specs.Racks.{rack_at}
 use Rattle.plate_rows.specs.Trays.{name_at}
 use Rattle.plate_rows.proofs.WriteLemmas.{writing_breaks, writing_grows}
-use Rattle.refusals.specs.declared.refusal.Refusal.{Refusal}
-use Rattle.refusals.specs.declared.refusal.Refusal.TheVariants.{Job as JobFails, Memory, NoDetails, Page, Plate, Read, Usage, Write}
+use Rattle.common_errors.specs.declared.common.CommonError.{CommonError}
+use Rattle.common_errors.specs.declared.common.CommonError.TheVariants.{Job as JobFails, Memory, NoDetails, Page, Plate, Read, Usage, Write}
 use Rattle.sheet_geometry.specs.declared.spans.Span.{Span}
 use Rattle.sheet_geometry.specs.Plans.{tile_of}
 use Rattle.sheet_geometry.specs.Sheets.{IsSheet}
@@ -29,14 +29,14 @@ use Rattle.sheet_geometry.specs.Tiles.{strip_row}
 use Rattle.sheet_geometry.proofs.PlanLemmas.{strip_is}
 use Rattle.sheet_stream.specs.declared.core_rows.StripCut.{StripCut}
 use Rattle.sheet_stream.specs.Cores.{AreOpen, IsCutStrip, WritesCore, core_row_of, core_rows_of, core_span_of}
-use Rattle.sheet_engine.specs.declared.room.StripRoom.{StripRoom}
-use Rattle.sheet_engine.specs.Rooms.{columns_in}
+use Rattle.sheet_engine.specs.declared.workspace.StripWorkspace.{StripWorkspace}
+use Rattle.sheet_engine.specs.Workspaces.{columns_in}
 
 -- what is put of a row of a plate
-pub row_is : (strip : PageParts) (cut : StripCut) (room : StripRoom) (k c : ℕ) → IsSheet strip → IsCutStrip strip cut room → k < cut.row.core → strip_row c strip k (map (λ (column : Span). tile_of column cut.row) (columns_in room)) ≡ core_row_of strip cut k c
-row_is strip cut room k c ok is l =
-    row_from c strip (map (λ (column : Span). tile_of column cut.row) (columns_in room)) cut.row.skip cut.row.core
-    (strip_is strip cut.across cut.down ok.parts.some_plates ok.parts.some_zones is.rulers (columns_in room) 0 cut.row.skip cut.row is.row is.columns) k l
+pub row_is : (strip : PageParts) (cut : StripCut) (workspace : StripWorkspace) (k c : ℕ) → IsSheet strip → IsCutStrip strip cut workspace → k < cut.row.core → strip_row c strip k (map (λ (column : Span). tile_of column cut.row) (columns_in workspace)) ≡ core_row_of strip cut k c
+row_is strip cut workspace k c ok is l =
+    row_from c strip (map (λ (column : Span). tile_of column cut.row) (columns_in workspace)) cut.row.skip cut.row.core
+    (strip_is strip cut.across cut.down ok.parts.some_plates ok.parts.some_zones is.rulers (columns_in workspace) 0 cut.row.skip cut.row is.row is.columns) k l
 
 -- new tints of a sheet, and those behind them
 pub new_more : (sheet : PageParts) (c first a b : ℕ) → new_from sheet c first a ++ new_from sheet c (first + a) b ≡ new_from sheet c first (a + b)
@@ -138,31 +138,31 @@ front wide j c first rest long l =
 
 -- the parts before it stay, and it is the next one
 pub part_put : (wide c j : ℕ) (line row new : List ℕ) → length row ≡ wide → c * wide + wide ≤ length line → new ≡ take (c * wide) line ++ (row ++ drop (c * wide + wide) line) → j < c → part_at wide new j ≡ part_at wide line j
-part_put wide c j line row new long room is l =
-    let first : length (take (c * wide) line) ≡ c * wide = omega (arith, room, length-take (c * wide) line) in
+part_put wide c j line row new long workspace is l =
+    let first : length (take (c * wide) line) ≡ c * wide = omega (arith, workspace, length-take (c * wide) line) in
     ap (λ (t : List ℕ). part_at wide t j) is
     ∙ front wide j c (take (c * wide) line) (row ++ drop (c * wide + wide) line) first l
     ∙ sym (front wide j c (take (c * wide) line) (drop (c * wide) line) first l)
     ∙ ap (λ (t : List ℕ). part_at wide t j) (take-append-drop (c * wide) line)
 
 pub part_new : (wide c : ℕ) (line row new : List ℕ) → length row ≡ wide → c * wide + wide ≤ length line → new ≡ take (c * wide) line ++ (row ++ drop (c * wide + wide) line) → part_at wide new c ≡ row
-part_new wide c line row new long room is =
-    let first : length (take (c * wide) line) ≡ c * wide = omega (arith, room, length-take (c * wide) line) in
+part_new wide c line row new long workspace is =
+    let first : length (take (c * wide) line) ≡ c * wide = omega (arith, workspace, length-take (c * wide) line) in
     ap (λ (t : List ℕ). part_at wide t c) is
     ∙ ap (take wide) (drop_at (take (c * wide) line) (row ++ drop (c * wide + wide) line) (c * wide) first)
     ∙ take_at row (drop (c * wide + wide) line) wide long
 
 pub put_long : (wide c : ℕ) (line row new : List ℕ) → length row ≡ wide → c * wide + wide ≤ length line → new ≡ take (c * wide) line ++ (row ++ drop (c * wide + wide) line) → length new ≡ length line
-put_long wide c line row new long room is =
+put_long wide c line row new long workspace is =
     ap length is ∙ (let a = length-append (take (c * wide) line) (row ++ drop (c * wide + wide) line) in let b = length-append row (drop (c * wide + wide) line) in let t = length-take (c * wide) line in let d = length-drop (c * wide + wide) line in
-    let e : length (take (c * wide) line ++ (row ++ drop (c * wide + wide) line)) ≡ length line = omega (arith, a, b, t, d, long, room) in e)
+    let e : length (take (c * wide) line ++ (row ++ drop (c * wide + wide) line)) ≡ length line = omega (arith, a, b, t, d, long, workspace) in e)
 
 -- a row behind the first ones of a plate
 pub row_put : (from n wide : ℕ) (line rows row mid new : List ℕ) → length rows ≡ n * wide → length row ≡ wide → from + (n + 1) * wide ≤ length line → mid ≡ take from line ++ (rows ++ drop (from + n * wide) line) → new ≡ take (from + n * wide) mid ++ (row ++ drop (from + n * wide + wide) mid) → new ≡ take from line ++ ((rows ++ row) ++ drop (from + (n + 1) * wide) line)
-row_put from n wide line rows row mid new some long room is put =
+row_put from n wide line rows row mid new some long workspace is put =
     let first = take from line ++ rows in
     let rest = drop (from + n * wide) line in
-    let at : length first ≡ from + n * wide = (let a = length-append (take from line) rows in let t = length-take from line in omega (arith, a, t, some, room)) in
+    let at : length first ≡ from + n * wide = (let a = length-append (take from line) rows in let t = length-take from line in omega (arith, a, t, some, workspace)) in
     let parts : mid ≡ first ++ rest = is ∙ sym (append_assoc (take from line) rows rest) in
     let before : take (from + n * wide) mid ≡ first = ap (take (from + n * wide)) parts ∙ take_at first rest (from + n * wide) at in
     let next : from + n * wide + wide ≡ from + (n + 1) * wide = omega arith in
@@ -184,7 +184,7 @@ pub span_long : (strip : PageParts) (cut : StripCut) (k n c : ℕ) → length (c
 span_long strip cut k n c = length-list_below (λ i. new strip (sample_at strip ((cut.row.skip + k) * width strip + i)) c) (n * width strip)
 
 -- a write that failed in some rows of the core
-pub core_stops : (count : ℕ) (header : Header) (strip : PageParts) (cut : StripCut) (k n : ℕ) (line : List ℕ) (begin a b : List RackState) (refusal : Refusal) → 1 ≤ n → k + n ≤ cut.row.core → ((names : List (List ℕ)) (tints : ℕ → List ℕ) (start : List RackState) → HaveWritten names header count tints start begin → HaveWritten names header count (λ c. tints c ++ core_rows_of strip cut k c) start a) → ((c : ℕ) → c < count → part_at (n * width strip) line c ≡ core_span_of strip cut k n c) → WritesNext count header (part_at (n * width strip) line) a b (Err refusal) → WritesCore count header strip cut begin b (Err refusal)
+pub core_stops : (count : ℕ) (header : Header) (strip : PageParts) (cut : StripCut) (k n : ℕ) (line : List ℕ) (begin a b : List RackState) (common_error : CommonError) → 1 ≤ n → k + n ≤ cut.row.core → ((names : List (List ℕ)) (tints : ℕ → List ℕ) (start : List RackState) → HaveWritten names header count tints start begin → HaveWritten names header count (λ c. tints c ++ core_rows_of strip cut k c) start a) → ((c : ℕ) → c < count → part_at (n * width strip) line c ≡ core_span_of strip cut k n c) → WritesNext count header (part_at (n * width strip) line) a b (Err common_error) → WritesCore count header strip cut begin b (Err common_error)
 core_stops count header strip cut k n line begin a b (Write (Some j)) some inside so_far rows writes = λ names tints start have. (k, n, some, inside, rows_break names header count strip cut tints start k n j line a b (so_far names tints start have) rows writes)
 core_stops count header strip cut k n line begin a b (Write None) some inside so_far rows writes = absurd writes
 core_stops count header strip cut k n line begin a b (Read file) some inside so_far rows writes = absurd writes
@@ -205,8 +205,8 @@ open_on count header rows a b are writes = record {
 }
 
 -- rows of the core lie on the strip
-pub rows_inside : (strip : PageParts) (cut : StripCut) (room : StripRoom) (k n : ℕ) → IsCutStrip strip cut room → k + n ≤ cut.row.core → (cut.row.skip + k) * width strip + n * width strip ≤ samples strip
-rows_inside strip cut room k n is l =
+pub rows_inside : (strip : PageParts) (cut : StripCut) (workspace : StripWorkspace) (k n : ℕ) → IsCutStrip strip cut workspace → k + n ≤ cut.row.core → (cut.row.skip + k) * width strip + n * width strip ≤ samples strip
+rows_inside strip cut workspace k n is l =
     let within : cut.row.skip + k + n ≤ height strip = (let a = is.row.core in let b = is.row.inside in let e = is.rulers.tall in omega (arith, a, b, e, l)) in
     let m : (cut.row.skip + k + n) * width strip ≤ height strip * width strip = mul-le-mul within (omega arith) in
     omega (arith, m)

@@ -34,8 +34,8 @@ module _ (sheet : PageParts) (valid : IsSheet sheet) where
       let plane = plane_in c l in
       let same = valid.agree c l in
       let inside : p.y * width sheet + p.x < width sheet * height sheet = mul-add-lt p.y (width sheet) p.x (height sheet) h.y h.x in
-      let held : place sheet p < length (plane_at sheet.planes c).tints = omega (arith, inside, plane.full, rw (same.wide, same.tall) at plane.full) in
-      rw (← same.deep) (plane.below (place sheet p) 0 held)
+      let stored : place sheet p < length (plane_at sheet.planes c).tints = omega (arith, inside, plane.full, rw (same.wide, same.tall) at plane.full) in
+      rw (← same.deep) (plane.below (place sheet p) 0 stored)
 
   across_in : (p : At) (e : EdgeAt) → IsEdge sheet e → InPage sheet (across p e)
   across_in p e edge = elim (cases_Bool (on_first_side p e)) [

@@ -2,9 +2,9 @@
 use Rattle.std.proofs.Common.{◌≡◌, ℕ, ◌-◌, List, [], ◌∷◌, ◌++◌, length, map, take, IsTrue, refl, sym, ap, ◌∙◌, subst, append_assoc}
 use Rattle.std.proofs.lemmas.List.{map-append, take_at}
 use Rattle.std.proofs.lemmas.Grind.{flat_map-append}
-use Rattle.outside.specs.Causes.{Asks}
+use Rattle.outside.specs.ErrorCases.{Asks}
 use Rattle.outside.specs.Rack.{put}
-use Rattle.outside.proofs.Steps.{kept_then, told_on}
+use Rattle.outside.proofs.Steps.{kept_then, reported_on}
 use Rattle.page_model.specs.Page.{width}
 use Rattle.pgm_plates.specs.declared.header.Header.{Header}
 use Rattle.pgm_plates.specs.Planes.{plate_of}
@@ -44,7 +44,7 @@ part_stands name header tints rest before after wrote =
     record {
       keeps = kept_then before created after creates.keeps writes.keeps;
       asked = subst (λ o. Asks before.asked o (name ∷ [])) (sym writes.asked) creates.asked;
-      told = λ tells. writes.told (told_on before created creates.keeps tells) ∙ creates.told tells;
+      reported = λ tells. writes.reported (reported_on before created creates.keeps tells) ∙ creates.reported tells;
       finished = writes.finished ∙ creates.finished;
       is_open = wrote.is_open;
       part = λ tells.

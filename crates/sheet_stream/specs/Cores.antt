@@ -6,21 +6,21 @@ use Rattle.page_model.specs.declared.parts.PageParts.{PageParts}
 use Rattle.page_model.specs.Page.{width}
 use Rattle.pgm_plates.specs.declared.header.Header.{Header}
 use Rattle.plate_rows.specs.Images.{BreaksRows, HaveWritten}
-use Rattle.refusals.specs.declared.refusal.Refusal.{Refusal}
-use Rattle.refusals.specs.declared.refusal.Refusal.TheVariants.{Write}
+use Rattle.common_errors.specs.declared.common.CommonError.{CommonError}
+use Rattle.common_errors.specs.declared.common.CommonError.TheVariants.{Write}
 use Rattle.sheet_geometry.specs.Plans.{AreRulers}
 use Rattle.sheet_geometry.specs.Spans.{AreSpans, IsSpan}
 use Rattle.sheet_stream.specs.declared.core_rows.StripCut.{StripCut}
-use Rattle.sheet_engine.specs.declared.room.StripRoom.{StripRoom}
-use Rattle.sheet_engine.specs.Rooms.{columns_in, tiles_in}
+use Rattle.sheet_engine.specs.declared.workspace.StripWorkspace.{StripWorkspace}
+use Rattle.sheet_engine.specs.Workspaces.{columns_in, tiles_in}
 use Rattle.sheet_engine.specs.Strips.{planes_of}
 
 -- the strip was cut so and trapped in the room
-pub record IsCutStrip (strip : PageParts) (cut : StripCut) (room : StripRoom) : Type 0 where
+pub record IsCutStrip (strip : PageParts) (cut : StripCut) (workspace : StripWorkspace) : Type 0 where
   pub rulers : AreRulers strip cut.across cut.down
   pub row : IsSpan cut.down cut.row.skip cut.row
-  pub columns : AreSpans cut.across 0 (columns_in room) (width strip)
-  pub tiles : tiles_in room ≡ map (planes_of strip cut.row) (columns_in room)
+  pub columns : AreSpans cut.across 0 (columns_in workspace) (width strip)
+  pub tiles : tiles_in workspace ≡ map (planes_of strip cut.row) (columns_in workspace)
 
 -- row k of the core's new tints of plate c
 abbrev pub core_row_of : PageParts → StripCut → ℕ → ℕ → List ℕ
@@ -45,7 +45,7 @@ pub record AreOpen (header : Header) (count : ℕ) (racks : List RackState) : Ty
 -- The rows of the core are written after what was written so far, up to the rows and the plate at
 -- which that fails.
 abbrev pub WritesCore : ℕ → Header → PageParts → StripCut → List RackState → List RackState
-    → Result (Unit {0}) Refusal → Type 0
+    → Result (Unit {0}) CommonError → Type 0
 WritesCore count header strip cut before after (Ok done) = (names : List (List ℕ))
     (tints : ℕ → List ℕ) (start : List RackState)
     → HaveWritten names header count tints start before

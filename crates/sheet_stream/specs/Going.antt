@@ -17,7 +17,7 @@ pub record IsPlaced (down : Ruler) (from at : ℕ) : Type 0 where
 -- are read.
 pub record IsProgress (down : Ruler) (progress : Progress) : Type 0 where
   pub inside : progress.read ≤ down.side
-  pub held : progress.from ≤ progress.at
+  pub stored : progress.from ≤ progress.at
   pub known : progress.at ≤ progress.read
   pub placed : 0 < progress.from → IsPlaced down progress.from progress.at
 

@@ -38,28 +38,28 @@ pub record AreKept (kept : ℕ) (old new : List Plane) : Type 0 where
 
 -- Of each plate `rows` rows are in memory, from row `from` on: they are the last that were read,
 -- where these are all tints that were.
-pub record HoldRowsFrom (bare : PageParts) (from rows : ℕ) (tints : ℕ → List ℕ)
+pub record HoldRowsFrom (outline : PageParts) (from rows : ℕ) (tints : ℕ → List ℕ)
     (planes : List Plane) : Type 0 where
-  pub count : length planes ≡ plates bare
-  pub read : (c : ℕ) → c < plates bare → length (tints c) ≡ (from + rows) * width bare
-  pub wide : (c : ℕ) → c < plates bare → (plane_at planes c).width ≡ width bare
-  pub tall : (c : ℕ) → c < plates bare → (plane_at planes c).height ≡ rows
-  pub deep : (c : ℕ) → c < plates bare → (plane_at planes c).maxval ≡ maxval bare
-  pub held : (c : ℕ) → c < plates bare → tints_of planes c ≡ drop (from * width bare) (tints c)
+  pub count : length planes ≡ plates outline
+  pub read : (c : ℕ) → c < plates outline → length (tints c) ≡ (from + rows) * width outline
+  pub wide : (c : ℕ) → c < plates outline → (plane_at planes c).width ≡ width outline
+  pub tall : (c : ℕ) → c < plates outline → (plane_at planes c).height ≡ rows
+  pub deep : (c : ℕ) → c < plates outline → (plane_at planes c).maxval ≡ maxval outline
+  pub stored : (c : ℕ) → c < plates outline → tints_of planes c ≡ drop (from * width outline) (tints c)
 
 -- planes that hold `rows` rows
-pub record HaveRoomFor (bare : PageParts) (rows : ℕ) (planes : List Plane) : Type 0 where
-  pub count : length planes ≡ plates bare
-  pub wide : (c : ℕ) → c < plates bare → (plane_at planes c).width ≡ width bare
-  pub tall : (c : ℕ) → c < plates bare → (plane_at planes c).height ≡ rows
-  pub deep : (c : ℕ) → c < plates bare → (plane_at planes c).maxval ≡ maxval bare
-  pub room : (c : ℕ) → c < plates bare → length (tints_of planes c) ≡ rows * width bare
+pub record HaveWorkspaceFor (outline : PageParts) (rows : ℕ) (planes : List Plane) : Type 0 where
+  pub count : length planes ≡ plates outline
+  pub wide : (c : ℕ) → c < plates outline → (plane_at planes c).width ≡ width outline
+  pub tall : (c : ℕ) → c < plates outline → (plane_at planes c).height ≡ rows
+  pub deep : (c : ℕ) → c < plates outline → (plane_at planes c).maxval ≡ maxval outline
+  pub workspace : (c : ℕ) → c < plates outline → length (tints_of planes c) ≡ rows * width outline
 
 -- The planes that hold the rows of a span are those of the strip, of each sheet that begins with
 -- what was read.
 abbrev pub HoldsStrip : Type 0
-HoldsStrip = (bare sheet : PageParts) (row : Span) (tints : ℕ → List ℕ) (planes : List Plane)
-    → HoldRowsFrom bare row.from row.wide tints planes → BeginsWith bare tints sheet
+HoldsStrip = (outline sheet : PageParts) (row : Span) (tints : ℕ → List ℕ) (planes : List Plane)
+    → HoldRowsFrom outline row.from row.wide tints planes → BeginsWith outline tints sheet
     → row.from + row.wide ≤ height sheet → planes ≡ (strip_parts sheet row).planes
 
 -- the tints of plate c that stand after those that are kept
@@ -67,17 +67,17 @@ abbrev pub behind : ℕ → List Plane → ℕ → List ℕ
 behind kept planes c = drop kept (tints_of planes c)
 
 -- Where all rows of the first strip are read, they are held.
-abbrev pub NoneAreHeld : Type 0
-NoneAreHeld = (bare : PageParts) (rows : ℕ) (old new : List Plane) → HaveRoomFor bare rows old
-    → AreKept 0 old new → HoldRowsFrom bare 0 rows (behind 0 new) new
+abbrev pub NoneAreStored : Type 0
+NoneAreStored = (outline : PageParts) (rows : ℕ) (old new : List Plane) → HaveWorkspaceFor outline rows old
+    → AreKept 0 old new → HoldRowsFrom outline 0 rows (behind 0 new) new
 
 -- Where the rows that two strips have in common are copied to the beginning, and kept, and the
 -- others are read after them, the rows of the next strip are in memory.
-abbrev pub NextAreHeld : Type 0
-NextAreHeld = (bare : PageParts) (from next rows : ℕ) (tints : ℕ → List ℕ)
-    (old copied new : List Plane) → HoldRowsFrom bare from rows tints old
+abbrev pub NextAreStored : Type 0
+NextAreStored = (outline : PageParts) (from next rows : ℕ) (tints : ℕ → List ℕ)
+    (old copied new : List Plane) → HoldRowsFrom outline from rows tints old
     → from ≤ next → next ≤ from + rows
-    → AreCopied ((next - from) * width bare) ((from + rows - next) * width bare) old copied
-    → AreKept ((from + rows - next) * width bare) copied new
-    → HoldRowsFrom bare next rows
-    (λ c. tints c ++ behind ((from + rows - next) * width bare) new c) new
+    → AreCopied ((next - from) * width outline) ((from + rows - next) * width outline) old copied
+    → AreKept ((from + rows - next) * width outline) copied new
+    → HoldRowsFrom outline next rows
+    (λ c. tints c ++ behind ((from + rows - next) * width outline) new c) new

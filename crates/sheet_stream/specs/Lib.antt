@@ -1,6 +1,6 @@
 pub mod Holding
 pub mod Growing
-pub mod HeldStrips
+pub mod StoredStrips
 pub mod RowReading
 pub mod Writing
 pub mod Reports
@@ -11,7 +11,7 @@ pub mod Going
 pub mod Strips
 pub mod Reading
 pub mod Waiting
-pub mod Rooms
+pub mod Workspaces
 pub mod Courses
 pub mod Second
 pub mod Whole

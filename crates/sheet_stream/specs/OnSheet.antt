@@ -6,7 +6,7 @@ use Rattle.page_model.specs.declared.parts.PageParts.{PageParts}
 use Rattle.page_model.specs.Page.{width}
 use Rattle.pgm_plates.specs.declared.header.Header.{Header}
 use Rattle.plate_rows.specs.Images.{BreaksRows}
-use Rattle.refusals.specs.declared.refusal.Refusal.TheVariants.{Write}
+use Rattle.common_errors.specs.declared.common.CommonError.TheVariants.{Write}
 use Rattle.sheet_stream.specs.Growing.{new_rows}
 use Rattle.sheet_stream.specs.Writing.{RowsAreWritten}
 use Rattle.sheet_geometry.specs.declared.spans.Ruler.{Ruler}

@@ -6,10 +6,10 @@ use Rattle.page_model.specs.declared.parts.Plane.{Plane}
 use Rattle.page_model.specs.Page.{height, maxval, plates, width}
 use Rattle.pgm_plates.specs.declared.rows.OpenPlate.{OpenPlate}
 use Rattle.plate_rows.specs.declared.rereading.NextRows.{NextRows}
-use Rattle.plate_rows.specs.declared.stop.RereadError.{RereadError}
+use Rattle.plate_rows.specs.declared.error.RereadError.{RereadError}
 use Rattle.plate_rows.specs.Rereading.{HaveRead, ReadsNext, turned}
 use Rattle.plate_rows.specs.Trays.{open_at}
-use Rattle.sheet_stream.specs.Holding.{AreCopied, HaveRoomFor, HoldRowsFrom}
+use Rattle.sheet_stream.specs.Holding.{AreCopied, HaveWorkspaceFor, HoldRowsFrom}
 
 -- Of each plane the tints that are kept, those after the first `by`, are copied to the beginning,
 -- and the next rows of the plates are read after them; all else is as it was.
@@ -34,27 +34,27 @@ with_rows rows strip = record {
 
 -- the tints that samples stand for, of a sheet that is bare so
 abbrev pub tints_for : PageParts → (ℕ → List ℕ) → ℕ → List ℕ
-tints_for bare samples c = turned (maxval bare) (samples c)
+tints_for outline samples c = turned (maxval outline) (samples c)
 
 -- all plates have the sheet's header
-pub record HaveHeader (bare : PageParts) (open_plates : List OpenPlate) : Type 0 where
-  pub count : length open_plates ≡ plates bare
+pub record HaveHeader (outline : PageParts) (open_plates : List OpenPlate) : Type 0 where
+  pub count : length open_plates ≡ plates outline
   pub each : (k : ℕ) → k < length open_plates → (open_at open_plates k).header
-      ≡ record { width = width bare; height = height bare; maxval = maxval bare }
+      ≡ record { width = width outline; height = height outline; maxval = maxval outline }
 
 -- Of what was read of the plates since a second reading began, `rows` rows are in memory, from row
 -- `from` on.
-pub record HoldsRead (inputs : List (List ℕ)) (bare : PageParts) (open_plates : List OpenPlate)
+pub record HoldsRead (inputs : List (List ℕ)) (outline : PageParts) (open_plates : List OpenPlate)
     (from rows : ℕ) (start now : List TrayState) (planes : List Plane) : Type 0 where
   pub samples : ℕ → List ℕ
   pub read : HaveRead inputs open_plates (length open_plates) samples start now
-  pub held : HoldRowsFrom bare from rows (tints_for bare samples) planes
+  pub stored : HoldRowsFrom outline from rows (tints_for outline samples) planes
 
 -- what is read of each plate after the rows that are held, up to those of the next strip
 abbrev pub rows_after : PageParts → ℕ → ℕ → ℕ → NextRows
-rows_after bare from rows next = record {
-  done = (from + rows) * width bare;
-  kept = (from + rows - next) * width bare;
+rows_after outline from rows next = record {
+  done = (from + rows) * width outline;
+  kept = (from + rows - next) * width outline;
 }
 
 -- More samples of each plate, after those before.
@@ -63,22 +63,22 @@ GoOn before after = (k : ℕ) → (more : List ℕ) × (after k ≡ before k ++ 
 
 -- After the rows of a strip those of the next one are read.
 abbrev pub NextIsRead : Type 0
-NextIsRead = (inputs : List (List ℕ)) (bare : PageParts) (open_plates : List OpenPlate)
+NextIsRead = (inputs : List (List ℕ)) (outline : PageParts) (open_plates : List OpenPlate)
     (from next rows : ℕ) (start before after : List TrayState) (old new : PageParts)
-    → HaveHeader bare open_plates
-    → (held : HoldsRead inputs bare open_plates from rows start before old.planes)
-    → from ≤ next → next ≤ from + rows → next + rows ≤ height bare
-    → ReadsStrip open_plates (rows_after bare from rows next) ((next - from) * width bare) old new
+    → HaveHeader outline open_plates
+    → (stored : HoldsRead inputs outline open_plates from rows start before old.planes)
+    → from ≤ next → next ≤ from + rows → next + rows ≤ height outline
+    → ReadsStrip open_plates (rows_after outline from rows next) ((next - from) * width outline) old new
     before after (Ok tt)
-    → (now : HoldsRead inputs bare open_plates next rows start after new.planes)
-    × GoOn held.samples now.samples
+    → (now : HoldsRead inputs outline open_plates next rows start after new.planes)
+    × GoOn stored.samples now.samples
 
 -- Of plates that are begun once more the rows of the first strip are read.
 abbrev pub FirstIsRead : Type 0
-FirstIsRead = (inputs : List (List ℕ)) (bare : PageParts) (open_plates : List OpenPlate)
+FirstIsRead = (inputs : List (List ℕ)) (outline : PageParts) (open_plates : List OpenPlate)
     (rows : ℕ) (start before after : List TrayState) (old new : PageParts)
-    → HaveHeader bare open_plates
+    → HaveHeader outline open_plates
     → HaveRead inputs open_plates (length open_plates) (λ k. []) start before
-    → HaveRoomFor bare rows old.planes → rows ≤ height bare
+    → HaveWorkspaceFor outline rows old.planes → rows ≤ height outline
     → ReadsStrip open_plates (record { done = 0; kept = 0 }) 0 old new before after (Ok tt)
-    → HoldsRead inputs bare open_plates 0 rows start after new.planes
+    → HoldsRead inputs outline open_plates 0 rows start after new.planes

@@ -1,7 +1,7 @@
 -- A second reading of a sheet's plates, and what is written by the time it ends or stops.
 use Rattle.std.specs.Prelude.{◌≡◌, ◌≢◌, ◌⊎◌, ℕ, ◌<◌, ◌≤◌, ◌^◌, IsTrue, List, [], length, Result}
 use Rattle.std.specs.Prelude.{Ok, Err, Some}
-use Rattle.outside.specs.declared.tray.Failed.{Failed}
+use Rattle.outside.specs.declared.tray.DeviceError.{DeviceError}
 use Rattle.outside.specs.Rack.{RackState}
 use Rattle.outside.specs.Tray.{TrayState}
 use Rattle.outside.specs.Writing.{WritesFile}
@@ -18,10 +18,10 @@ use Rattle.plate_rows.specs.Images.{AreWritten, EndsImages}
 use Rattle.plate_rows.specs.Racks.{rack_at}
 use Rattle.plate_rows.specs.Rereading.{EndsPlates, HaveRead, StopsReading}
 use Rattle.plate_rows.specs.Trays.{EachTray, IsCalm, TakesFiles, name_at}
-use Rattle.plate_rows.specs.declared.stop.RereadError.{RereadError}
-use Rattle.refusals.specs.declared.refusal.Refusal.TheVariants.{Write}
-use Rattle.sheet_stream.specs.declared.stop.StreamError.{StreamError}
-use Rattle.sheet_stream.specs.declared.stop.StreamError.TheVariants.{Unread, Unwritten}
+use Rattle.plate_rows.specs.declared.error.RereadError.{RereadError}
+use Rattle.common_errors.specs.declared.common.CommonError.TheVariants.{Write}
+use Rattle.sheet_stream.specs.declared.error.StreamError.{StreamError}
+use Rattle.sheet_stream.specs.declared.error.StreamError.TheVariants.{Unread, Unwritten}
 use Rattle.sheet_stream.specs.Courses.{Course, OfEach, Starts}
 use Rattle.sheet_stream.specs.RowReading.{HaveHeader}
 use Rattle.sheet_stream.specs.Writing.{StandsInPart}
@@ -36,9 +36,9 @@ sheet_header sheet =
 
 -- The plates were begun once more, with the sheet's header still, and these samples were read of
 -- each by then.
-pub record WasRead (course : Course) (bare : PageParts) : Type 0 where
+pub record WasRead (course : Course) (outline : PageParts) : Type 0 where
   pub begun : List OpenPlate
-  pub headers : HaveHeader bare begun
+  pub headers : HaveHeader outline begun
   pub samples : ℕ → List ℕ
   pub between : List TrayState
   pub read : HaveRead course.inputs begun (length begun) samples course.trays between
@@ -54,71 +54,71 @@ MayStand course header sheet k racks = (rack_at racks k ≡ rack_at course.racks
     (rack_at course.racks k) (rack_at racks k)
 
 -- So are all racks.
-pub record PartsStand (course : Course) (bare : PageParts) (header : Header)
+pub record PartsStand (course : Course) (outline : PageParts) (header : Header)
     (racks : List RackState) (sheet : PageParts) : Type 0 where
-  pub each : (k : ℕ) → k < plates bare → MayStand course header sheet k racks
-  pub others : (k : ℕ) → plates bare ≤ k → rack_at racks k ≡ rack_at course.racks k
+  pub each : (k : ℕ) → k < plates outline → MayStand course header sheet k racks
+  pub others : (k : ℕ) → plates outline ≤ k → rack_at racks k ≡ rack_at course.racks k
 
 -- Plate k could not be written whole. Of each other plate the whole stands, or a prefix, or its
 -- rack is as it was.
-pub record PlateBreaks (course : Course) (bare : PageParts) (header : Header) (k : ℕ)
+pub record PlateBreaks (course : Course) (outline : PageParts) (header : Header) (k : ℕ)
     (racks : List RackState) (sheet : PageParts) : Type 0 where
-  pub known : k < plates bare
-  pub failed : Failed
+  pub known : k < plates outline
+  pub failed : DeviceError
   pub here : WritesFile {T = Unit {0}} (name_at course.outputs k) (plate_bytes header sheet k)
       (rack_at course.racks k) (rack_at racks k) (Err failed)
-  pub each : (j : ℕ) → j < plates bare → j ≢ k → MayStand course header sheet j racks
-      ⊎ WritesFile {T = Unit {0}} {E = Failed} (name_at course.outputs j)
+  pub each : (j : ℕ) → j < plates outline → j ≢ k → MayStand course header sheet j racks
+      ⊎ WritesFile {T = Unit {0}} {E = DeviceError} (name_at course.outputs j)
       (plate_bytes header sheet j) (rack_at course.racks j) (rack_at racks j) (Ok tt)
-  pub others : (j : ℕ) → plates bare ≤ j → rack_at racks j ≡ rack_at course.racks j
+  pub others : (j : ℕ) → plates outline ≤ j → rack_at racks j ≡ rack_at course.racks j
 
 -- Each plate was read whole once more; of each sheet that begins with what was read, which is all
 -- of it, each file is written whole, and everything is counted.
-pub record IsDone (course : Course) (bare : PageParts) (header : Header) (counts : SheetCounts)
+pub record IsDone (course : Course) (outline : PageParts) (header : Header) (counts : SheetCounts)
     (trays : List TrayState) (racks : List RackState) : Type 0 where
-  pub was : WasRead course bare
-  pub whole : EachTray (plates bare) (λ k before after. ReadsPlateWithin Sheet
+  pub was : WasRead course outline
+  pub whole : EachTray (plates outline) (λ k before after. ReadsPlateWithin Sheet
       (name_at course.inputs k) before after
-      (Ok (plate_with (sheet_header bare) (was.samples k)))) course.trays trays
-  pub written : OfEach bare was.samples (λ sheet. AreWritten course.outputs header (plates bare)
+      (Ok (plate_with (sheet_header outline) (was.samples k)))) course.trays trays
+  pub written : OfEach outline was.samples (λ sheet. AreWritten course.outputs header (plates outline)
       (new_tints sheet) course.racks racks)
-  pub counted : OfEach bare was.samples (λ sheet. IsCounted sheet counts)
+  pub counted : OfEach outline was.samples (λ sheet. IsCounted sheet counts)
 
 -- The reading stopped once files were created, which is after each plate was opened again: of each
 -- plate a prefix stands at most.
-pub record IsUnread (course : Course) (bare : PageParts) (header : Header)
-    (trays : List TrayState) (racks : List RackState) (stop : RereadError) : Type 0 where
-  pub was : WasRead course bare
-  pub stops : StopsReading course.inputs (λ k. sheet_header bare) (plates bare) course.trays trays
-      stop
-  pub takes : TakesFiles course.inputs (plates bare) course.trays trays
-  pub written : OfEach bare was.samples (PartsStand course bare header racks)
+pub record IsUnread (course : Course) (outline : PageParts) (header : Header)
+    (trays : List TrayState) (racks : List RackState) (error : RereadError) : Type 0 where
+  pub was : WasRead course outline
+  pub stops : StopsReading course.inputs (λ k. sheet_header outline) (plates outline) course.trays trays
+      error
+  pub takes : TakesFiles course.inputs (plates outline) course.trays trays
+  pub written : OfEach outline was.samples (PartsStand course outline header racks)
 
 -- The writing of plate k failed; no fault of a tray was passed over.
-pub record IsUnwritten (course : Course) (bare : PageParts) (header : Header)
+pub record IsUnwritten (course : Course) (outline : PageParts) (header : Header)
     (trays : List TrayState) (racks : List RackState) (k : ℕ) : Type 0 where
-  pub was : WasRead course bare
-  pub takes : TakesFiles course.inputs (plates bare) course.trays trays
+  pub was : WasRead course outline
+  pub takes : TakesFiles course.inputs (plates outline) course.trays trays
   pub calm : (j : ℕ) → IsCalm course.trays trays j
-  pub written : OfEach bare was.samples (PlateBreaks course bare header k racks)
+  pub written : OfEach outline was.samples (PlateBreaks course outline header k racks)
 
 -- The plates and the files are begun; this is what comes of it.
 abbrev pub ComesTo : Course → PageParts → Header → SheetCounts → List TrayState → List RackState
     → Result (Unit {0}) StreamError → Type 0
-ComesTo course bare header counts trays racks (Ok done) =
-    IsDone course bare header counts trays racks
-ComesTo course bare header counts trays racks (Err (Unread stop)) =
-    IsUnread course bare header trays racks stop
-ComesTo course bare header counts trays racks (Err (Unwritten (Write (Some k)))) =
-    IsUnwritten course bare header trays racks k
-ComesTo course bare header counts trays racks (Err (Unwritten other)) = ⊥
+ComesTo course outline header counts trays racks (Ok done) =
+    IsDone course outline header counts trays racks
+ComesTo course outline header counts trays racks (Err (Unread error)) =
+    IsUnread course outline header trays racks error
+ComesTo course outline header counts trays racks (Err (Unwritten (Write (Some k)))) =
+    IsUnwritten course outline header trays racks k
+ComesTo course outline header counts trays racks (Err (Unwritten other)) = ⊥
 
 -- .. from wherever that began
 abbrev pub EndsCourse : PageParts → StripPlan → List OpenPlate → SheetCounts → List TrayState
     → List TrayState → List RackState → List RackState → Result (Unit {0}) StreamError → Type 0
-EndsCourse bare plan begun counts trays trays' racks racks' result = (course : Course)
-    → Starts course bare plan begun trays racks
-    → ComesTo course bare plan.header counts trays' racks' result
+EndsCourse outline plan begun counts trays trays' racks racks' result = (course : Course)
+    → Starts course outline plan begun trays racks
+    → ComesTo course outline plan.header counts trays' racks' result
 
 -- a course that begins now
 abbrev pub course_of : List (List ℕ) → List (List ℕ) → List TrayState → List RackState → Course
@@ -135,10 +135,10 @@ pub record IsBegun (begun : List OpenPlate) (trays : List TrayState) : Type 0 wh
 abbrev pub WritesBegun : List (List ℕ) → PageParts → StripPlan → List OpenPlate → SheetCounts
     → List TrayState → List TrayState → List RackState → List RackState
     → Result (Unit {0}) StreamError → Type 0
-WritesBegun outputs bare plan begun counts trays trays' racks racks' result =
+WritesBegun outputs outline plan begun counts trays trays' racks racks' result =
     (inputs : List (List ℕ)) (start : List TrayState)
     → HaveRead inputs begun (length begun) (λ k. []) start trays
-    → ComesTo (course_of inputs outputs start racks) bare plan.header counts trays' racks' result
+    → ComesTo (course_of inputs outputs start racks) outline plan.header counts trays' racks' result
 
 -- A plate of which all samples may be read.
 pub record CanEnd (plate : OpenPlate) (tray : TrayState) : Type 0 where
@@ -151,17 +151,17 @@ abbrev pub EndsBoth : List OpenPlate → List TrayState → List TrayState → L
     → List RackState → Result (Unit {0}) StreamError → Type 0
 EndsBoth begun trays trays' racks racks' (Ok done) =
     EndsPlates begun trays trays' (Ok tt) × EndsImages (length begun) racks racks' (Ok tt)
-EndsBoth begun trays trays' racks racks' (Err (Unread stop)) =
-    EndsPlates begun trays trays' (Err stop) × (racks' ≡ racks)
-EndsBoth begun trays trays' racks racks' (Err (Unwritten refusal)) =
+EndsBoth begun trays trays' racks racks' (Err (Unread error)) =
+    EndsPlates begun trays trays' (Err error) × (racks' ≡ racks)
+EndsBoth begun trays trays' racks racks' (Err (Unwritten common_error)) =
     EndsPlates begun trays trays' (Ok tt)
-    × EndsImages (length begun) racks racks' (Err refusal)
+    × EndsImages (length begun) racks racks' (Err common_error)
 
 -- Before a file is created the reading may stop, with all racks as they were.
 abbrev pub StreamsSheet : Course → PageParts → Header → SheetCounts → List TrayState
     → List RackState → Result (Unit {0}) StreamError → Type 0
-StreamsSheet course bare header counts trays racks (Err (Unread stop)) =
-    (StopsReading course.inputs (λ k. sheet_header bare) (plates bare) course.trays trays stop
-    × (racks ≡ course.racks)) ⊎ IsUnread course bare header trays racks stop
-StreamsSheet course bare header counts trays racks other =
-    ComesTo course bare header counts trays racks other
+StreamsSheet course outline header counts trays racks (Err (Unread error)) =
+    (StopsReading course.inputs (λ k. sheet_header outline) (plates outline) course.trays trays error
+    × (racks ≡ course.racks)) ⊎ IsUnread course outline header trays racks error
+StreamsSheet course outline header counts trays racks other =
+    ComesTo course outline header counts trays racks other

@@ -9,7 +9,7 @@ use Rattle.pgm_plates.specs.Reading.{ReadsPlateWithin}
 use Rattle.pgm_plates.specs.Rows.{plate_with}
 use Rattle.plate_rows.specs.Rereading.{HaveRead, StopsReading}
 use Rattle.plate_rows.specs.Trays.{EachTray, name_at}
-use Rattle.plate_rows.specs.declared.stop.RereadError.{RereadError}
+use Rattle.plate_rows.specs.declared.error.RereadError.{RereadError}
 use Rattle.sheet_stream.specs.Courses.{OfEach}
 use Rattle.sheet_stream.specs.Second.{sheet_header}
 use Rattle.sheet_stream.specs.RowReading.{HaveHeader}
@@ -21,27 +21,27 @@ all_rows sheet =
     record { from = 0; wide = height sheet; skip = 0; core = height sheet }
 
 -- Each plate was read whole once more: what is held is each sheet that begins with what was read.
-pub record IsHeld (inputs : List (List ℕ)) (bare held : PageParts)
+pub record IsStored (inputs : List (List ℕ)) (outline stored : PageParts)
     (before after : List TrayState) : Type 0 where
   pub begun : List OpenPlate
-  pub headers : HaveHeader bare begun
+  pub headers : HaveHeader outline begun
   pub samples : ℕ → List ℕ
   pub between : List TrayState
   pub read : HaveRead inputs begun (length begun) samples before between
-  pub whole : EachTray (plates bare) (λ k a b. ReadsPlateWithin Sheet (name_at inputs k) a b
-      (Ok (plate_with (sheet_header bare) (samples k)))) before after
-  pub same : OfEach bare samples (λ sheet. held ≡ sheet)
+  pub whole : EachTray (plates outline) (λ k a b. ReadsPlateWithin Sheet (name_at inputs k) a b
+      (Ok (plate_with (sheet_header outline) (samples k)))) before after
+  pub same : OfEach outline samples (λ sheet. stored ≡ sheet)
 
 -- It is, or the reading stops.
 abbrev pub HoldsSheet : List (List ℕ) → PageParts → PageParts → List TrayState → List TrayState
     → Result (Unit {0}) RereadError → Type 0
-HoldsSheet inputs bare held before after (Ok done) = IsHeld inputs bare held before after
-HoldsSheet inputs bare held before after (Err stop) =
-    StopsReading inputs (λ k. sheet_header bare) (plates bare) before after stop
+HoldsSheet inputs outline stored before after (Ok done) = IsStored inputs outline stored before after
+HoldsSheet inputs outline stored before after (Err error) =
+    StopsReading inputs (λ k. sheet_header outline) (plates outline) before after error
 
 -- .. of plates that are begun, wherever that was
-abbrev pub EndsHeld : PageParts → List OpenPlate → PageParts → List TrayState → List TrayState
+abbrev pub EndsStored : PageParts → List OpenPlate → PageParts → List TrayState → List TrayState
     → Result (Unit {0}) RereadError → Type 0
-EndsHeld bare begun held before after result = (inputs : List (List ℕ)) (start : List TrayState)
+EndsStored outline begun stored before after result = (inputs : List (List ℕ)) (start : List TrayState)
     → HaveRead inputs begun (length begun) (λ k. []) start before
-    → HoldsSheet inputs bare held start after result
+    → HoldsSheet inputs outline stored start after result

@@ -1,6 +1,6 @@
 -- The new tints of a sheet, as the racks' files have them.
 use Rattle.std.specs.Prelude.{◌≡◌, ℕ, ◌+◌, ◌*◌, ◌<◌, IsTrue, List, [], ◌∷◌, ◌++◌, take, Ok}
-use Rattle.outside.specs.Causes.{Asks}
+use Rattle.outside.specs.ErrorCases.{Asks}
 use Rattle.outside.specs.Rack.{RackState, KeepsRack, put}
 use Rattle.page_model.specs.declared.parts.PageParts.{PageParts}
 use Rattle.page_model.specs.Page.{width}
@@ -35,7 +35,7 @@ RowIsWritten = (outputs : List (List ℕ)) (header : Header) (count rows : ℕ) 
 pub record StandsInPart (name bytes : List ℕ) (before after : RackState) : Type 0 where
   pub keeps : KeepsRack before after
   pub asked : Asks before.asked after.asked (name ∷ [])
-  pub told : IsTrue before.tells → after.told ≡ before.told
+  pub reported : IsTrue before.tells → after.reported ≡ before.reported
   pub finished : after.finished ≡ before.finished
   pub is_open : IsTrue after.is_open
   pub part : IsTrue before.tells

@@ -6,21 +6,21 @@ ghost use Rattle.sheet_stream.specs.Ready.{IsTrappable, TrapsRow};
 
 use crate::parts::StripPlan;
 use crate::rows::Progress;
+use crate::stored_rows::read_ahead;
 use crate::strip::trap_row;
+use crate::zones::turn_to;
 use outside::tray::Tray;
 use page_model::parts::PageParts;
 use pgm_plates::rows::OpenPlate;
+use plate_rows::error::RereadError;
 use plate_rows::rereading::NextRows;
-use plate_rows::stop::RereadError;
-use crate::held_rows::read_ahead;
-use crate::zones::turn_to;
+use sheet_engine::counts::SheetCounts;
+use sheet_engine::workspace::StripWorkspace;
 use sheet_geometry::spans::Span;
+use sheet_geometry::window_sheet::Sheet;
 use std::alloc::Global;
 use std::thread;
 use std::thread::Threads;
-use sheet_engine::room::StripRoom;
-use sheet_engine::counts::SheetCounts;
-use sheet_geometry::window_sheet::Sheet;
 
 /// Moves the next strip to these rows, copies those of them that the current strip has too from it, and reads the
 /// others, plate k by tray k. It allocates nothing.
@@ -29,7 +29,7 @@ use sheet_geometry::window_sheet::Sheet;
 pub fn read_row<T: Tray>(
     alloc: Global,
     trays: &mut [T],
-    bare: &PageParts,
+    outline: &PageParts,
     plan: &StripPlan,
     plates: &[OpenPlate],
     progress: &Progress,
@@ -38,16 +38,16 @@ pub fn read_row<T: Tray>(
     ahead: &mut PageParts,
     bytes: &mut Vec<u8>,
 ) -> Result<(), RereadError>
-    requires can { CanReadRow bare.now plan.now plates.now progress.now row.now
+    requires can { CanReadRow outline.now plan.now plates.now progress.now row.now
         (map T.state trays.old) strip.now ahead.old }
     requires trays { length plates.now ≤ length trays.old }
     requires bytes { 2 ≤ length bytes.old.items }
-    ensures read { ReadsRow bare.now plates.now progress.now row.now strip.now ahead.new
+    ensures read { ReadsRow outline.now plates.now progress.now row.now strip.now ahead.new
         (map T.state trays.old) (map T.state trays.new) result }
     ensures bytes { length bytes.new.items ≡ length bytes.old.items }
 {
-    turn_to(bare, row, ahead);
-    let wide = bare.planes.as_slice()[0].width;
+    turn_to(outline, row, ahead);
+    let wide = outline.planes.as_slice()[0].width;
     let kept = progress.read - row.from;
     let gone = row.from - progress.from;
     let next = NextRows {
@@ -65,7 +65,7 @@ pub fn trap_while<H: Threads + Sync, W: FnMut() -> A, A: Send>(
     plan: &StripPlan,
     row: &Span,
     strip: &Sheet,
-    windows: &mut StripRoom,
+    windows: &mut StripWorkspace,
     counts: &mut SheetCounts,
     work: &mut W,
 ) -> A

@@ -8,19 +8,19 @@ ghost use Rattle.sheet_stream.specs.Cores.{WritesCore};
 ghost use Rattle.sheet_stream.specs.OnSheet.{strip_cut};
 
 use crate::ahead::read_row;
+use crate::error::StreamError;
 use crate::parts::StripPlan;
 use crate::rows::Progress;
-use crate::stop::StreamError;
-use crate::strip::{CoreRoom, write_row};
+use crate::strip::{CoreWorkspace, write_row};
+use common_errors::common::CommonError;
 use lists::list::List;
 use outside::rack::Rack;
 use outside::tray::Tray;
 use page_model::parts::PageParts;
 use pgm_plates::rows::OpenPlate;
-use refusals::refusal::Refusal;
 use sheet_geometry::spans::Span;
-use std::alloc::Global;
 use sheet_geometry::window_sheet::Sheet;
+use std::alloc::Global;
 
 /// Writes the rows of the core of a strip that was trapped and not written yet, plate k by rack k. It allocates
 /// nothing.
@@ -32,8 +32,8 @@ pub fn write_waiting<R: Rack>(
     plan: &StripPlan,
     row: &Span,
     strip: &mut PageParts,
-    core: &mut CoreRoom,
-) -> Result<(), Refusal>
+    core: &mut CoreWorkspace,
+) -> Result<(), CommonError>
     requires racks { plates strip.old ≤ length racks.old }
     requires opened { PlatesOpen plan.now strip.old (map R.state racks.old) }
     requires waiting { IsWaiting plan.now row.now strip.old core.old }
@@ -60,7 +60,7 @@ pub fn write_and_read<T: Tray, R: Rack>(
     alloc: Global,
     trays: &mut [T],
     racks: &mut [R],
-    bare: &PageParts,
+    outline: &PageParts,
     plan: &StripPlan,
     plates: &[OpenPlate],
     progress: &Progress,
@@ -68,12 +68,12 @@ pub fn write_and_read<T: Tray, R: Rack>(
     next: &Span,
     strip: &PageParts,
     ahead: &mut PageParts,
-    core: &mut CoreRoom,
+    core: &mut CoreWorkspace,
     bytes: &mut Vec<u8>,
 ) -> Result<(), StreamError>
     requires opened { PlatesOpen plan.now ahead.old (map R.state racks.old) }
     requires waiting { IsWaiting plan.now last.now ahead.old core.old }
-    requires can { CanReadRow bare.now plan.now plates.now progress.now next.now
+    requires can { CanReadRow outline.now plan.now plates.now progress.now next.now
         (map T.state trays.old) strip.now ahead.old }
     requires trays { length plates.now ≤ length trays.old }
     requires count { length ahead.old.planes ≡ length plates.now }
@@ -83,18 +83,18 @@ pub fn write_and_read<T: Tray, R: Rack>(
     ensures line { length core.new.line.items ≡ length core.old.line.items }
     ensures spelled { length core.new.bytes.items ≡ length core.old.bytes.items }
     ensures bytes { length bytes.new.items ≡ length bytes.old.items }
-    ensures does { WritesAndReads bare.now plan.now plates.now progress.now last.now next.now
+    ensures does { WritesAndReads outline.now plan.now plates.now progress.now last.now next.now
         strip.now ahead.old ahead.new (map T.state trays.old) (map T.state trays.new)
         (map R.state racks.old) (map R.state racks.new) result }
 {
     match write_waiting(alloc, racks, plan, last, ahead, core) {
         Ok(()) => match read_row(
-            alloc, trays, bare, plan, plates, progress, next, strip, ahead, bytes,
+            alloc, trays, outline, plan, plates, progress, next, strip, ahead, bytes,
         ) {
             Ok(()) => Ok(()),
-            Err(stop) => Err(StreamError::Unread(stop)),
+            Err(error) => Err(StreamError::Unread(error)),
         },
-        Err(refusal) => Err(StreamError::Unwritten(refusal)),
+        Err(common_error) => Err(StreamError::Unwritten(common_error)),
     }
 }
 

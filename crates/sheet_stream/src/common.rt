@@ -35,7 +35,7 @@ fn copy_plane(alloc: Global, plane: &Plane, by: usize, kept: usize, next: &mut P
 // Copies `kept` tints, after the first `by`, to the beginning of other tints.
 fn copy_to_start(from: &[u16], by: usize, kept: usize, tints: &mut [u16])
     requires inside { by + kept ≤ length from.now }
-    requires room { kept ≤ length tints.old }
+    requires workspace { kept ≤ length tints.old }
     ensures full { length tints.new ≡ length tints.old }
     ensures first { take kept tints.new ≡ take kept (drop by from.now) }
 {

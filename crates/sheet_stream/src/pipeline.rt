@@ -6,20 +6,20 @@ ghost use Rattle.sheet_stream.specs.Going.{IsStripRow, gone_on};
 ghost use Rattle.sheet_stream.specs.Reading.{CanReadRow, ReadsRow};
 ghost use Rattle.sheet_stream.specs.Waiting.{IsWaiting, PlatesOpen, WritesAndReads};
 
-use crate::room::StreamRoom;
+use crate::ahead::{read_row, trap_while};
+use crate::beside::write_and_read;
+use crate::error::StreamError;
+use crate::parts::StripPlan;
+use crate::rows::progress_after;
+use crate::workspace::StreamWorkspace;
 use outside::rack::Rack;
 use outside::tray::Tray;
 use page_model::parts::PageParts;
 use pgm_plates::rows::OpenPlate;
-use plate_rows::stop::RereadError;
+use plate_rows::error::RereadError;
 use sheet_geometry::spans::Span;
 use std::alloc::Global;
 use std::thread::Threads;
-use crate::ahead::{read_row, trap_while};
-use crate::beside::write_and_read;
-use crate::parts::StripPlan;
-use crate::rows::progress_after;
-use crate::stop::StreamError;
 
 /// Traps the current strip and counts its core, and makes the next strip: side by side, with the reading in the
 /// caller's thread; or with one worker one after the other. It allocates nothing but what threads take.
@@ -29,35 +29,35 @@ pub fn trap_and_read<H: Threads + Sync, T: Tray>(
     rt: &H,
     alloc: Global,
     trays: &mut [T],
-    bare: &PageParts,
+    outline: &PageParts,
     plan: &StripPlan,
     plates: &[OpenPlate],
     row: &Span,
     next: &Span,
-    room: &mut StreamRoom,
+    workspace: &mut StreamWorkspace,
 ) -> Result<(), RereadError>
     requires row { IsStripRow plan.now.down row.now }
-    requires trap { IsTrappable plan.now row.now room.old.strip room.old.windows
-        room.old.counts }
-    requires can { CanReadRow bare.now plan.now plates.now (gone_on row.now) next.now
-        (map T.state trays.old) room.old.strip room.old.ahead }
+    requires trap { IsTrappable plan.now row.now workspace.old.strip workspace.old.windows
+        workspace.old.counts }
+    requires can { CanReadRow outline.now plan.now plates.now (gone_on row.now) next.now
+        (map T.state trays.old) workspace.old.strip workspace.old.ahead }
     requires trays { length plates.now ≤ length trays.old }
-    requires pieces { 2 ≤ length room.old.pieces.items }
-    ensures strip { room.new.strip ≡ room.old.strip }
-    ensures trapped { TrapsRow plan.now row.now room.old.strip room.old.windows
-        room.new.windows room.old.counts room.new.counts }
-    ensures core { room.new.core ≡ room.old.core }
-    ensures pieces { length room.new.pieces.items ≡ length room.old.pieces.items }
-    ensures read { ReadsRow bare.now plates.now (gone_on row.now) next.now room.old.strip
-        room.new.ahead (map T.state trays.old) (map T.state trays.new) result }
+    requires pieces { 2 ≤ length workspace.old.pieces.items }
+    ensures strip { workspace.new.strip ≡ workspace.old.strip }
+    ensures trapped { TrapsRow plan.now row.now workspace.old.strip workspace.old.windows
+        workspace.new.windows workspace.old.counts workspace.new.counts }
+    ensures core { workspace.new.core ≡ workspace.old.core }
+    ensures pieces { length workspace.new.pieces.items ≡ length workspace.old.pieces.items }
+    ensures read { ReadsRow outline.now plates.now (gone_on row.now) next.now workspace.old.strip
+        workspace.new.ahead (map T.state trays.old) (map T.state trays.new) result }
 {
     let progress = &progress_after(&plan.down, row);
-    let strip = &room.strip;
+    let strip = &workspace.strip;
     let parts = strip.parts();
-    let windows = &mut room.windows;
-    let counts = &mut room.counts;
-    let ahead = &mut room.ahead;
-    let pieces = &mut room.pieces;
+    let windows = &mut workspace.windows;
+    let counts = &mut workspace.counts;
+    let ahead = &mut workspace.ahead;
+    let pieces = &mut workspace.pieces;
     trap_while(
         rt,
         plan,
@@ -66,13 +66,13 @@ pub fn trap_and_read<H: Threads + Sync, T: Tray>(
         windows,
         counts,
         &mut || -> Result<(), RereadError>
-            requires can { CanReadRow bare.now plan.now plates.now progress.now next.now
+            requires can { CanReadRow outline.now plan.now plates.now progress.now next.now
                 (map T.state trays.now) parts.now ahead.now }
             requires trays { length plates.now ≤ length trays.now }
             requires pieces { 2 ≤ length pieces.now.items }
         {
             read_row(
-                alloc, trays, bare, plan, plates, progress, next, parts, ahead, pieces,
+                alloc, trays, outline, plan, plates, progress, next, parts, ahead, pieces,
             )
         },
     )
@@ -89,44 +89,44 @@ pub fn trap_beside<H: Threads + Sync, T: Tray, R: Rack>(
     alloc: Global,
     trays: &mut [T],
     racks: &mut [R],
-    bare: &PageParts,
+    outline: &PageParts,
     plan: &StripPlan,
     plates: &[OpenPlate],
     last: &Span,
     row: &Span,
     next: &Span,
-    room: &mut StreamRoom,
+    workspace: &mut StreamWorkspace,
 ) -> Result<(), StreamError>
     requires row { IsStripRow plan.now.down row.now }
-    requires trap { IsTrappable plan.now row.now room.old.strip room.old.windows
-        room.old.counts }
-    requires opened { PlatesOpen plan.now room.old.ahead (map R.state racks.old) }
-    requires waiting { IsWaiting plan.now last.now room.old.ahead room.old.core }
-    requires can { CanReadRow bare.now plan.now plates.now (gone_on row.now) next.now
-        (map T.state trays.old) room.old.strip room.old.ahead }
+    requires trap { IsTrappable plan.now row.now workspace.old.strip workspace.old.windows
+        workspace.old.counts }
+    requires opened { PlatesOpen plan.now workspace.old.ahead (map R.state racks.old) }
+    requires waiting { IsWaiting plan.now last.now workspace.old.ahead workspace.old.core }
+    requires can { CanReadRow outline.now plan.now plates.now (gone_on row.now) next.now
+        (map T.state trays.old) workspace.old.strip workspace.old.ahead }
     requires trays { length plates.now ≤ length trays.old }
-    requires count { length room.old.ahead.planes ≡ length plates.now }
+    requires count { length workspace.old.ahead.planes ≡ length plates.now }
     requires racks { length plates.now ≤ length racks.old }
-    requires pieces { 2 ≤ length room.old.pieces.items }
-    ensures strip { room.new.strip ≡ room.old.strip }
-    ensures trapped { TrapsRow plan.now row.now room.old.strip room.old.windows
-        room.new.windows room.old.counts room.new.counts }
-    ensures windows { room.new.core.windows ≡ room.old.core.windows }
-    ensures line { length room.new.core.line.items ≡ length room.old.core.line.items }
-    ensures bytes { length room.new.core.bytes.items ≡ length room.old.core.bytes.items }
-    ensures pieces { length room.new.pieces.items ≡ length room.old.pieces.items }
-    ensures does { WritesAndReads bare.now plan.now plates.now (gone_on row.now) last.now next.now
-        room.old.strip room.old.ahead room.new.ahead (map T.state trays.old)
+    requires pieces { 2 ≤ length workspace.old.pieces.items }
+    ensures strip { workspace.new.strip ≡ workspace.old.strip }
+    ensures trapped { TrapsRow plan.now row.now workspace.old.strip workspace.old.windows
+        workspace.new.windows workspace.old.counts workspace.new.counts }
+    ensures windows { workspace.new.core.windows ≡ workspace.old.core.windows }
+    ensures line { length workspace.new.core.line.items ≡ length workspace.old.core.line.items }
+    ensures bytes { length workspace.new.core.bytes.items ≡ length workspace.old.core.bytes.items }
+    ensures pieces { length workspace.new.pieces.items ≡ length workspace.old.pieces.items }
+    ensures does { WritesAndReads outline.now plan.now plates.now (gone_on row.now) last.now next.now
+        workspace.old.strip workspace.old.ahead workspace.new.ahead (map T.state trays.old)
         (map T.state trays.new) (map R.state racks.old) (map R.state racks.new) result }
 {
     let progress = &progress_after(&plan.down, row);
-    let strip = &room.strip;
+    let strip = &workspace.strip;
     let parts = strip.parts();
-    let windows = &mut room.windows;
-    let counts = &mut room.counts;
-    let ahead = &mut room.ahead;
-    let core = &mut room.core;
-    let pieces = &mut room.pieces;
+    let windows = &mut workspace.windows;
+    let counts = &mut workspace.counts;
+    let ahead = &mut workspace.ahead;
+    let core = &mut workspace.core;
+    let pieces = &mut workspace.pieces;
     trap_while(
         rt,
         plan,
@@ -137,7 +137,7 @@ pub fn trap_beside<H: Threads + Sync, T: Tray, R: Rack>(
         &mut || -> Result<(), StreamError>
             requires opened { PlatesOpen plan.now ahead.now (map R.state racks.now) }
             requires waiting { IsWaiting plan.now last.now ahead.now core.now }
-            requires can { CanReadRow bare.now plan.now plates.now progress.now next.now
+            requires can { CanReadRow outline.now plan.now plates.now progress.now next.now
                 (map T.state trays.now) parts.now ahead.now }
             requires trays { length plates.now ≤ length trays.now }
             requires count { length ahead.now.planes ≡ length plates.now }
@@ -145,8 +145,8 @@ pub fn trap_beside<H: Threads + Sync, T: Tray, R: Rack>(
             requires pieces { 2 ≤ length pieces.now.items }
         {
             write_and_read(
-                alloc, trays, racks, bare, plan, plates, progress, last, next, parts, ahead, core,
-                pieces,
+                alloc, trays, racks, outline, plan, plates, progress, last, next, parts, ahead,
+                core, pieces,
             )
         },
     )

@@ -4,7 +4,7 @@ ghost use Rattle.std.specs.Prelude.{◌≡◌, ◌<◌, ◌≤◌, ℕ, IsTrue, 
 ghost use Rattle.page_model.specs.Page.{plates};
 ghost use Rattle.sheet_stream.specs.Courses.{IsStarted};
 ghost use Rattle.sheet_stream.specs.Strips.{CanStream};
-ghost use Rattle.sheet_stream.specs.Rooms.{IsStreamRoom};
+ghost use Rattle.sheet_stream.specs.Workspaces.{IsStreamWorkspace};
 ghost use Rattle.plate_rows.specs.Racks.{rack_at};
 ghost use Rattle.plate_rows.specs.Trays.{open_at, tray_at};
 ghost use Rattle.sheet_stream.specs.Second.{CanEnd, EndsBoth, EndsCourse, IsBegun, StreamsSheet, WritesBegun, course_of, sheet_header};
@@ -12,8 +12,10 @@ ghost use Rattle.sheet_stream.specs.RowReading.{HaveHeader};
 ghost use Rattle.sheet_engine.specs.Works.{AreNone};
 ghost use Rattle.page_model.specs.Limits.{most_plates};
 
-use crate::room::StreamRoom;
+use crate::error::StreamError;
+use crate::parts::StripPlan;
 use crate::strips::stream_strips;
+use crate::workspace::StreamWorkspace;
 use outside::rack::Rack;
 use outside::tray::Tray;
 use page_model::bounds::MOST_PLATES;
@@ -24,8 +26,6 @@ use plate_rows::rereading::{begin_plates, end_plates};
 use std::alloc::Global;
 use std::convert::AsStr;
 use std::thread::Threads;
-use crate::parts::StripPlan;
-use crate::stop::StreamError;
 
 /// Reads the plates of a sheet that was checked once more, plate k by tray k, and traps it strip by strip; the new
 /// plates are written to the files of their names, plate k by rack k. It allocates nothing.
@@ -40,21 +40,21 @@ pub fn stream_sheet<H: Threads + Sync, T: Tray, R: Rack, S: AsStr>(
     racks: &mut [R],
     inputs: &[S],
     outputs: &[S],
-    bare: &PageParts,
+    outline: &PageParts,
     plan: &StripPlan,
-    room: &mut StreamRoom,
+    workspace: &mut StreamWorkspace,
 ) -> Result<(), StreamError>
-    requires can { CanStream bare.now plan.now }
-    requires header { plan.now.header ≡ sheet_header bare.now }
-    requires inputs { length inputs.now ≡ plates bare.now }
-    requires outputs { length outputs.now ≡ plates bare.now }
-    requires trays { plates bare.now ≤ length trays.old }
-    requires racks { plates bare.now ≤ length racks.old }
-    requires room { IsStreamRoom bare.now plan.now room.old }
-    requires counts { AreNone bare.now room.old.counts }
+    requires can { CanStream outline.now plan.now }
+    requires header { plan.now.header ≡ sheet_header outline.now }
+    requires inputs { length inputs.now ≡ plates outline.now }
+    requires outputs { length outputs.now ≡ plates outline.now }
+    requires trays { plates outline.now ≤ length trays.old }
+    requires racks { plates outline.now ≤ length racks.old }
+    requires workspace { IsStreamWorkspace outline.now plan.now workspace.old }
+    requires counts { AreNone outline.now workspace.old.counts }
     ensures { let course = course_of (map S.text inputs.now) (map S.text outputs.now)
         (map T.state trays.old) (map R.state racks.old) in
-        StreamsSheet course bare.now plan.now.header room.new.counts (map T.state trays.new)
+        StreamsSheet course outline.now plan.now.header workspace.new.counts (map T.state trays.new)
         (map R.state racks.new) result }
 {
     let none = OpenPlate {
@@ -66,9 +66,11 @@ pub fn stream_sheet<H: Threads + Sync, T: Tray, R: Rack, S: AsStr>(
     match begin_plates(trays, inputs, &headers, &mut plates) {
         Ok(()) => {
             let begun = &plates[..inputs.len()];
-            write_sheet(rt, alloc, trays, racks, outputs, bare, plan, begun, room)
+            write_sheet(
+                rt, alloc, trays, racks, outputs, outline, plan, begun, workspace,
+            )
         }
-        Err(stop) => Err(StreamError::Unread(stop)),
+        Err(error) => Err(StreamError::Unread(error)),
     }
 }
 
@@ -79,26 +81,26 @@ fn write_sheet<H: Threads + Sync, T: Tray, R: Rack, S: AsStr>(
     trays: &mut [T],
     racks: &mut [R],
     outputs: &[S],
-    bare: &PageParts,
+    outline: &PageParts,
     plan: &StripPlan,
     plates: &[OpenPlate],
-    room: &mut StreamRoom,
+    workspace: &mut StreamWorkspace,
 ) -> Result<(), StreamError>
-    requires can { CanStream bare.now plan.now }
-    requires headers { HaveHeader bare.now plates.now }
+    requires can { CanStream outline.now plan.now }
+    requires headers { HaveHeader outline.now plates.now }
     requires outputs { length outputs.now ≡ length plates.now }
     requires trays { length plates.now ≤ length trays.old }
     requires racks { length plates.now ≤ length racks.old }
-    requires room { IsStreamRoom bare.now plan.now room.old }
-    requires counts { AreNone bare.now room.old.counts }
+    requires workspace { IsStreamWorkspace outline.now plan.now workspace.old }
+    requires counts { AreNone outline.now workspace.old.counts }
     requires read { IsBegun plates.now (map T.state trays.old) }
-    ensures { WritesBegun (map S.text outputs.now) bare.now plan.now plates.now room.new.counts
+    ensures { WritesBegun (map S.text outputs.now) outline.now plan.now plates.now workspace.new.counts
         (map T.state trays.old) (map T.state trays.new) (map R.state racks.old)
         (map R.state racks.new) result }
 {
     match begin_images(racks, outputs, plan.header) {
-        Ok(()) => write_begun(rt, alloc, trays, racks, bare, plan, plates, room),
-        Err(refusal) => Err(StreamError::Unwritten(refusal)),
+        Ok(()) => write_begun(rt, alloc, trays, racks, outline, plan, plates, workspace),
+        Err(common_error) => Err(StreamError::Unwritten(common_error)),
     }
 }
 
@@ -108,25 +110,25 @@ fn write_begun<H: Threads + Sync, T: Tray, R: Rack>(
     alloc: Global,
     trays: &mut [T],
     racks: &mut [R],
-    bare: &PageParts,
+    outline: &PageParts,
     plan: &StripPlan,
     plates: &[OpenPlate],
-    room: &mut StreamRoom,
+    workspace: &mut StreamWorkspace,
 ) -> Result<(), StreamError>
-    requires can { CanStream bare.now plan.now }
-    requires headers { HaveHeader bare.now plates.now }
+    requires can { CanStream outline.now plan.now }
+    requires headers { HaveHeader outline.now plates.now }
     requires trays { length plates.now ≤ length trays.old }
     requires racks { length plates.now ≤ length racks.old }
-    requires room { IsStreamRoom bare.now plan.now room.old }
-    requires counts { AreNone bare.now room.old.counts }
-    requires started { IsStarted bare.now plan.now plates.now (map T.state trays.old)
+    requires workspace { IsStreamWorkspace outline.now plan.now workspace.old }
+    requires counts { AreNone outline.now workspace.old.counts }
+    requires started { IsStarted outline.now plan.now plates.now (map T.state trays.old)
         (map R.state racks.old) }
-    ensures { EndsCourse bare.now plan.now plates.now room.new.counts (map T.state trays.old)
+    ensures { EndsCourse outline.now plan.now plates.now workspace.new.counts (map T.state trays.old)
         (map T.state trays.new) (map R.state racks.old) (map R.state racks.new) result }
 {
-    match stream_strips(rt, alloc, trays, racks, bare, plan, plates, room) {
+    match stream_strips(rt, alloc, trays, racks, outline, plan, plates, workspace) {
         Ok(()) => end_sheet(trays, racks, plates),
-        Err(stop) => Err(stop),
+        Err(error) => Err(error),
     }
 }
 
@@ -149,8 +151,8 @@ fn end_sheet<T: Tray, R: Rack>(
     match end_plates(trays, plates) {
         Ok(()) => match end_images(racks, plates.len()) {
             Ok(()) => Ok(()),
-            Err(refusal) => Err(StreamError::Unwritten(refusal)),
+            Err(common_error) => Err(StreamError::Unwritten(common_error)),
         },
-        Err(stop) => Err(StreamError::Unread(stop)),
+        Err(error) => Err(StreamError::Unread(error)),
     }
 }

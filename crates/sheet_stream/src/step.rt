@@ -3,10 +3,10 @@
 
 ghost use Rattle.std.specs.Prelude.{◌≡◌, ◌*◌, ◌≤◌, OnOk, length, map};
 ghost use Rattle.page_model.specs.Page.{maxval, plates, width};
-ghost use Rattle.sheet_stream.specs.Courses.{BeginsAt, GoesFirst, GoesOn, IsAwaiting, IsHeld};
+ghost use Rattle.sheet_stream.specs.Courses.{BeginsAt, GoesFirst, GoesOn, IsAwaiting, IsStored};
 ghost use Rattle.sheet_stream.specs.Going.{IsNextRow, IsStripRow, gone_on, not_begun};
 ghost use Rattle.sheet_stream.specs.Strips.{CanStream};
-ghost use Rattle.sheet_stream.specs.Rooms.{IsStreamRoom};
+ghost use Rattle.sheet_stream.specs.Workspaces.{IsStreamWorkspace};
 ghost use Rattle.sheet_stream.specs.Second.{IsBegun};
 ghost use Rattle.sheet_stream.specs.Waiting.{IsWaiting};
 ghost use Rattle.sheet_stream.specs.RowReading.{HaveHeader};
@@ -14,22 +14,22 @@ ghost use Rattle.sheet_stream.specs.Cores.{AreOpen, WritesCore};
 ghost use Rattle.sheet_stream.specs.OnSheet.{strip_cut};
 ghost use Rattle.sheet_stream.specs.Ready.{IsTrappable, TrapsRow};
 
+use crate::ahead::read_row;
+use crate::error::StreamError;
+use crate::parts::StripPlan;
 use crate::pipeline::{trap_and_read, trap_beside};
-use crate::room::{StreamRoom, change_places};
+use crate::rows::Progress;
+use crate::strip::{trap_row, write_row};
+use crate::workspace::{StreamWorkspace, change_places};
+use common_errors::common::CommonError;
 use outside::rack::Rack;
 use outside::tray::Tray;
 use page_model::parts::PageParts;
 use pgm_plates::rows::OpenPlate;
-use plate_rows::stop::RereadError;
-use refusals::refusal::Refusal;
+use plate_rows::error::RereadError;
 use sheet_geometry::spans::Span;
 use std::alloc::Global;
 use std::thread::Threads;
-use crate::ahead::read_row;
-use crate::parts::StripPlan;
-use crate::rows::Progress;
-use crate::stop::StreamError;
-use crate::strip::{trap_row, write_row};
 
 /// Reads the rows of the first strip, which becomes the current one, plate k by tray k. It allocates nothing.
 ///
@@ -37,38 +37,38 @@ use crate::strip::{trap_row, write_row};
 pub fn read_first<T: Tray>(
     alloc: Global,
     trays: &mut [T],
-    bare: &PageParts,
+    outline: &PageParts,
     plan: &StripPlan,
     plates: &[OpenPlate],
     row: &Span,
-    room: &mut StreamRoom,
+    workspace: &mut StreamWorkspace,
 ) -> Result<(), RereadError>
-    requires can { CanStream bare.now plan.now }
-    requires headers { HaveHeader bare.now plates.now }
+    requires can { CanStream outline.now plan.now }
+    requires headers { HaveHeader outline.now plates.now }
     requires trays { length plates.now ≤ length trays.old }
     requires row { IsNextRow plan.now.down not_begun row.now }
-    requires room { IsStreamRoom bare.now plan.now room.old }
+    requires workspace { IsStreamWorkspace outline.now plan.now workspace.old }
     requires begun { IsBegun plates.now (map T.state trays.old) }
-    ensures room { OnOk result (IsStreamRoom bare.now plan.now room.new) }
-    ensures begins { BeginsAt bare.now plan.now plates.now row.now (map T.state trays.old)
-        (map T.state trays.new) room.old room.new result }
+    ensures workspace { OnOk result (IsStreamWorkspace outline.now plan.now workspace.new) }
+    ensures begins { BeginsAt outline.now plan.now plates.now row.now (map T.state trays.old)
+        (map T.state trays.new) workspace.old workspace.new result }
 {
     let top = Progress {
         at: 0,
         from: 0,
         read: 0,
     };
-    let parts = room.strip.parts();
-    let ahead = &mut room.ahead;
-    let bytes = &mut room.pieces;
+    let parts = workspace.strip.parts();
+    let ahead = &mut workspace.ahead;
+    let bytes = &mut workspace.pieces;
     match read_row(
-        alloc, trays, bare, plan, plates, &top, row, parts, ahead, bytes,
+        alloc, trays, outline, plan, plates, &top, row, parts, ahead, bytes,
     ) {
         Ok(()) => {
-            change_places(alloc, room);
+            change_places(alloc, workspace);
             Ok(())
         }
-        Err(stop) => Err(stop),
+        Err(error) => Err(error),
     }
 }
 
@@ -81,31 +81,33 @@ pub fn trap_first<H: Threads + Sync, T: Tray>(
     rt: &H,
     alloc: Global,
     trays: &mut [T],
-    bare: &PageParts,
+    outline: &PageParts,
     plan: &StripPlan,
     plates: &[OpenPlate],
     row: &Span,
     next: &Span,
-    room: &mut StreamRoom,
+    workspace: &mut StreamWorkspace,
 ) -> Result<(), RereadError>
-    requires can { CanStream bare.now plan.now }
-    requires headers { HaveHeader bare.now plates.now }
+    requires can { CanStream outline.now plan.now }
+    requires headers { HaveHeader outline.now plates.now }
     requires trays { length plates.now ≤ length trays.old }
     requires row { IsStripRow plan.now.down row.now }
     requires next { IsNextRow plan.now.down (gone_on row.now) next.now }
-    requires room { IsStreamRoom bare.now plan.now room.old }
-    requires way { IsHeld bare.now plan.now plates.now row.now (map T.state trays.old) room.old }
-    ensures room { OnOk result (IsStreamRoom bare.now plan.now room.new) }
-    ensures waiting { OnOk result (IsWaiting plan.now row.now room.new.ahead room.new.core) }
-    ensures goes { GoesFirst bare.now plan.now plates.now row.now next.now (map T.state trays.old)
-        (map T.state trays.new) room.old room.new result }
+    requires workspace { IsStreamWorkspace outline.now plan.now workspace.old }
+    requires way { IsStored outline.now plan.now plates.now row.now (map T.state trays.old) workspace.old }
+    ensures workspace { OnOk result (IsStreamWorkspace outline.now plan.now workspace.new) }
+    ensures waiting { OnOk result (IsWaiting plan.now row.now workspace.new.ahead workspace.new.core) }
+    ensures goes { GoesFirst outline.now plan.now plates.now row.now next.now (map T.state trays.old)
+        (map T.state trays.new) workspace.old workspace.new result }
 {
-    match trap_and_read(rt, alloc, trays, bare, plan, plates, row, next, room) {
+    match trap_and_read(
+        rt, alloc, trays, outline, plan, plates, row, next, workspace,
+    ) {
         Ok(()) => {
-            change_places(alloc, room);
+            change_places(alloc, workspace);
             Ok(())
         }
-        Err(stop) => Err(stop),
+        Err(error) => Err(error),
     }
 }
 
@@ -120,38 +122,38 @@ pub fn stream_strip<H: Threads + Sync, T: Tray, R: Rack>(
     alloc: Global,
     trays: &mut [T],
     racks: &mut [R],
-    bare: &PageParts,
+    outline: &PageParts,
     plan: &StripPlan,
     plates: &[OpenPlate],
     last: &Span,
     row: &Span,
     next: &Span,
-    room: &mut StreamRoom,
+    workspace: &mut StreamWorkspace,
 ) -> Result<(), StreamError>
-    requires can { CanStream bare.now plan.now }
-    requires headers { HaveHeader bare.now plates.now }
+    requires can { CanStream outline.now plan.now }
+    requires headers { HaveHeader outline.now plates.now }
     requires trays { length plates.now ≤ length trays.old }
     requires racks { length plates.now ≤ length racks.old }
     requires row { IsStripRow plan.now.down row.now }
     requires next { IsNextRow plan.now.down (gone_on row.now) next.now }
-    requires room { IsStreamRoom bare.now plan.now room.old }
-    requires waiting { IsWaiting plan.now last.now room.old.ahead room.old.core }
-    requires way { IsAwaiting bare.now plan.now plates.now last.now row.now
-        (map T.state trays.old) (map R.state racks.old) room.old }
-    ensures room { OnOk result (IsStreamRoom bare.now plan.now room.new) }
-    ensures waiting { OnOk result (IsWaiting plan.now row.now room.new.ahead room.new.core) }
-    ensures goes { GoesOn bare.now plan.now plates.now last.now row.now next.now
+    requires workspace { IsStreamWorkspace outline.now plan.now workspace.old }
+    requires waiting { IsWaiting plan.now last.now workspace.old.ahead workspace.old.core }
+    requires way { IsAwaiting outline.now plan.now plates.now last.now row.now
+        (map T.state trays.old) (map R.state racks.old) workspace.old }
+    ensures workspace { OnOk result (IsStreamWorkspace outline.now plan.now workspace.new) }
+    ensures waiting { OnOk result (IsWaiting plan.now row.now workspace.new.ahead workspace.new.core) }
+    ensures goes { GoesOn outline.now plan.now plates.now last.now row.now next.now
         (map T.state trays.old) (map T.state trays.new) (map R.state racks.old)
-        (map R.state racks.new) room.old room.new result }
+        (map R.state racks.new) workspace.old workspace.new result }
 {
     match trap_beside(
-        rt, alloc, trays, racks, bare, plan, plates, last, row, next, room,
+        rt, alloc, trays, racks, outline, plan, plates, last, row, next, workspace,
     ) {
         Ok(()) => {
-            change_places(alloc, room);
+            change_places(alloc, workspace);
             Ok(())
         }
-        Err(stop) => Err(stop),
+        Err(error) => Err(error),
     }
 }
 
@@ -164,24 +166,31 @@ pub fn put_last<H: Threads + Sync, R: Rack>(
     racks: &mut [R],
     plan: &StripPlan,
     row: &Span,
-    room: &mut StreamRoom,
-) -> Result<(), Refusal>
-    requires trap { IsTrappable plan.now row.now room.old.strip room.old.core.windows
-        room.old.counts }
-    requires racks { plates room.old.strip ≤ length racks.old }
-    requires open { AreOpen plan.now.header (plates room.old.strip) (map R.state racks.old) }
-    requires line { let strip = room.old.strip in
-        plates strip * width strip ≤ length room.old.core.line.items }
-    requires bytes { 2 ≤ length room.old.core.bytes.items }
-    requires maxval { plan.now.header.maxval ≡ maxval room.old.strip }
-    ensures trapped { TrapsRow plan.now row.now room.old.strip room.old.core.windows
-        room.new.core.windows room.old.counts room.new.counts }
-    ensures written { let strip = room.old.strip in
+    workspace: &mut StreamWorkspace,
+) -> Result<(), CommonError>
+    requires trap { IsTrappable plan.now row.now workspace.old.strip workspace.old.core.windows
+        workspace.old.counts }
+    requires racks { plates workspace.old.strip ≤ length racks.old }
+    requires open { AreOpen plan.now.header (plates workspace.old.strip) (map R.state racks.old) }
+    requires line { let strip = workspace.old.strip in
+        plates strip * width strip ≤ length workspace.old.core.line.items }
+    requires bytes { 2 ≤ length workspace.old.core.bytes.items }
+    requires maxval { plan.now.header.maxval ≡ maxval workspace.old.strip }
+    ensures trapped { TrapsRow plan.now row.now workspace.old.strip workspace.old.core.windows
+        workspace.new.core.windows workspace.old.counts workspace.new.counts }
+    ensures written { let strip = workspace.old.strip in
         WritesCore (plates strip) plan.now.header strip
         (strip_cut plan.now.across plan.now.down row.now) (map R.state racks.old)
         (map R.state racks.new) result }
 {
-    let windows = &mut room.core.windows;
-    trap_row(rt, plan, row, &room.strip, windows, &mut room.counts);
-    write_row(racks, plan, row, &room.strip, &mut room.core)
+    let windows = &mut workspace.core.windows;
+    trap_row(
+        rt,
+        plan,
+        row,
+        &workspace.strip,
+        windows,
+        &mut workspace.counts,
+    );
+    write_row(racks, plan, row, &workspace.strip, &mut workspace.core)
 }

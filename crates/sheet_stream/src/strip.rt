@@ -8,19 +8,19 @@ ghost use Rattle.sheet_stream.specs.Ready.{IsTrappable, TrapsRow};
 
 use crate::core_rows::write_core;
 use crate::parts::{StripPlan, cut_of};
+use common_errors::common::CommonError;
 use outside::rack::Rack;
-use refusals::refusal::Refusal;
-use sheet_geometry::spans::Span;
-use std::thread::Threads;
-use sheet_engine::room::{StripRoom, trap_strip_in};
 use sheet_engine::counts::SheetCounts;
+use sheet_engine::workspace::{StripWorkspace, trap_strip_in};
+use sheet_geometry::spans::Span;
 use sheet_geometry::window_sheet::Sheet;
+use std::thread::Threads;
 
 /// What a strip is trapped and written with: the buffers of its windows, a buffer `line` for some rows of all plates,
 /// at least one, and a buffer for some bytes.
 #[derive(Drop)]
-pub struct CoreRoom {
-    pub windows: StripRoom,
+pub struct CoreWorkspace {
+    pub windows: StripWorkspace,
     pub line: Vec<u16>,
     pub bytes: Vec<u8>,
 }
@@ -32,7 +32,7 @@ pub fn trap_row<H: Threads + Sync>(
     plan: &StripPlan,
     row: &Span,
     strip: &Sheet,
-    windows: &mut StripRoom,
+    windows: &mut StripWorkspace,
     counts: &mut SheetCounts,
 )
     requires { IsTrappable plan.now row.now strip.now windows.old counts.old }
@@ -62,18 +62,18 @@ pub fn write_row<R: Rack>(
     plan: &StripPlan,
     row: &Span,
     strip: &Sheet,
-    room: &mut CoreRoom,
-) -> Result<(), Refusal>
+    workspace: &mut CoreWorkspace,
+) -> Result<(), CommonError>
     requires racks { plates strip.now ≤ length racks.old }
     requires open { AreOpen plan.now.header (plates strip.now) (map R.state racks.old) }
     requires cut { IsCutStrip strip.now (strip_cut plan.now.across plan.now.down row.now)
-        room.old.windows }
-    requires line { plates strip.now * width strip.now ≤ length room.old.line.items }
-    requires bytes { 2 ≤ length room.old.bytes.items }
+        workspace.old.windows }
+    requires line { plates strip.now * width strip.now ≤ length workspace.old.line.items }
+    requires bytes { 2 ≤ length workspace.old.bytes.items }
     requires maxval { plan.now.header.maxval ≡ maxval strip.now }
-    ensures windows { room.new.windows ≡ room.old.windows }
-    ensures line { length room.new.line.items ≡ length room.old.line.items }
-    ensures bytes { length room.new.bytes.items ≡ length room.old.bytes.items }
+    ensures windows { workspace.new.windows ≡ workspace.old.windows }
+    ensures line { length workspace.new.line.items ≡ length workspace.old.line.items }
+    ensures bytes { length workspace.new.bytes.items ≡ length workspace.old.bytes.items }
     ensures written { WritesCore (plates strip.now) plan.now.header strip.now
         (strip_cut plan.now.across plan.now.down row.now) (map R.state racks.old)
         (map R.state racks.new) result }
@@ -84,8 +84,8 @@ pub fn write_row<R: Rack>(
         plan.header,
         strip,
         &cut,
-        &room.windows,
-        &mut room.line,
-        &mut room.bytes,
+        &workspace.windows,
+        &mut workspace.line,
+        &mut workspace.bytes,
     )
 }

@@ -5,13 +5,17 @@ ghost use Rattle.sheet_stream.specs.Courses.{Finishes, IsAwaiting, IsLastRow, Is
 ghost use Rattle.sheet_stream.specs.Courses.{Reaches, ReachesLast, Streams};
 ghost use Rattle.sheet_stream.specs.Going.{IsStripRow};
 ghost use Rattle.sheet_stream.specs.Strips.{CanStream};
-ghost use Rattle.sheet_stream.specs.Rooms.{IsStreamRoom};
+ghost use Rattle.sheet_stream.specs.Workspaces.{IsStreamWorkspace};
 ghost use Rattle.sheet_stream.specs.Waiting.{IsWaiting};
 ghost use Rattle.sheet_stream.specs.RowReading.{HaveHeader};
 ghost use Rattle.sheet_engine.specs.Works.{AreNone};
 
-use crate::room::StreamRoom;
+use crate::beside::write_waiting;
+use crate::error::StreamError;
+use crate::parts::StripPlan;
+use crate::rows::{Progress, next_row, progress_after};
 use crate::step::{put_last, read_first, stream_strip, trap_first};
+use crate::workspace::StreamWorkspace;
 use outside::rack::Rack;
 use outside::tray::Tray;
 use page_model::parts::PageParts;
@@ -19,10 +23,6 @@ use pgm_plates::rows::OpenPlate;
 use sheet_geometry::spans::Span;
 use std::alloc::Global;
 use std::thread::Threads;
-use crate::beside::write_waiting;
-use crate::parts::StripPlan;
-use crate::rows::{Progress, next_row, progress_after};
-use crate::stop::StreamError;
 
 /// Streams a sheet whose plates and files are begun: strip after strip, from the top, its rows are read, it is trapped
 /// by the workers, and the rows of its core are written; plate k is read by tray k and written by rack k. With several
@@ -37,20 +37,20 @@ pub fn stream_strips<H: Threads + Sync, T: Tray, R: Rack>(
     alloc: Global,
     trays: &mut [T],
     racks: &mut [R],
-    bare: &PageParts,
+    outline: &PageParts,
     plan: &StripPlan,
     plates: &[OpenPlate],
-    room: &mut StreamRoom,
+    workspace: &mut StreamWorkspace,
 ) -> Result<(), StreamError>
-    requires can { CanStream bare.now plan.now }
-    requires headers { HaveHeader bare.now plates.now }
+    requires can { CanStream outline.now plan.now }
+    requires headers { HaveHeader outline.now plates.now }
     requires trays { length plates.now ≤ length trays.old }
     requires racks { length plates.now ≤ length racks.old }
-    requires room { IsStreamRoom bare.now plan.now room.old }
-    requires counts { AreNone bare.now room.old.counts }
-    requires started { IsStarted bare.now plan.now plates.now (map T.state trays.old)
+    requires workspace { IsStreamWorkspace outline.now plan.now workspace.old }
+    requires counts { AreNone outline.now workspace.old.counts }
+    requires started { IsStarted outline.now plan.now plates.now (map T.state trays.old)
         (map R.state racks.old) }
-    ensures { Streams bare.now plan.now plates.now room.old.counts room.new.counts
+    ensures { Streams outline.now plan.now plates.now workspace.old.counts workspace.new.counts
         (map T.state trays.old) (map T.state trays.new) (map R.state racks.old)
         (map R.state racks.new) result }
 {
@@ -60,9 +60,11 @@ pub fn stream_strips<H: Threads + Sync, T: Tray, R: Rack>(
         read: 0,
     };
     let first = next_row(&plan.down, top);
-    match read_first(alloc, trays, bare, plan, plates, &first, room) {
-        Ok(()) => stream_on(rt, alloc, trays, racks, bare, plan, plates, &first, room),
-        Err(stop) => Err(StreamError::Unread(stop)),
+    match read_first(alloc, trays, outline, plan, plates, &first, workspace) {
+        Ok(()) => stream_on(
+            rt, alloc, trays, racks, outline, plan, plates, &first, workspace,
+        ),
+        Err(error) => Err(StreamError::Unread(error)),
     }
 }
 
@@ -72,30 +74,32 @@ fn stream_on<H: Threads + Sync, T: Tray, R: Rack>(
     alloc: Global,
     trays: &mut [T],
     racks: &mut [R],
-    bare: &PageParts,
+    outline: &PageParts,
     plan: &StripPlan,
     plates: &[OpenPlate],
     first: &Span,
-    room: &mut StreamRoom,
+    workspace: &mut StreamWorkspace,
 ) -> Result<(), StreamError>
-    requires can { CanStream bare.now plan.now }
-    requires headers { HaveHeader bare.now plates.now }
+    requires can { CanStream outline.now plan.now }
+    requires headers { HaveHeader outline.now plates.now }
     requires trays { length plates.now ≤ length trays.old }
     requires racks { length plates.now ≤ length racks.old }
     requires first { IsStripRow plan.now.down first.now }
-    requires room { IsStreamRoom bare.now plan.now room.old }
-    requires way { IsUnderWay bare.now plan.now plates.now first.now (map T.state trays.old)
-        (map R.state racks.old) room.old }
-    ensures { Finishes bare.now plan.now plates.now first.now (map T.state trays.old)
-        (map T.state trays.new) (map R.state racks.old) (map R.state racks.new) room.old room.new
+    requires workspace { IsStreamWorkspace outline.now plan.now workspace.old }
+    requires way { IsUnderWay outline.now plan.now plates.now first.now (map T.state trays.old)
+        (map R.state racks.old) workspace.old }
+    ensures { Finishes outline.now plan.now plates.now first.now (map T.state trays.old)
+        (map T.state trays.new) (map R.state racks.old) (map R.state racks.new) workspace.old workspace.new
         result }
 {
-    match reach_last(rt, alloc, trays, racks, bare, plan, plates, first, room) {
-        Ok(row) => match put_last(rt, racks, plan, &row, room) {
+    match reach_last(
+        rt, alloc, trays, racks, outline, plan, plates, first, workspace,
+    ) {
+        Ok(row) => match put_last(rt, racks, plan, &row, workspace) {
             Ok(()) => Ok(()),
-            Err(refusal) => Err(StreamError::Unwritten(refusal)),
+            Err(common_error) => Err(StreamError::Unwritten(common_error)),
         },
-        Err(stop) => Err(stop),
+        Err(error) => Err(error),
     }
 }
 
@@ -106,24 +110,24 @@ fn reach_last<H: Threads + Sync, T: Tray, R: Rack>(
     alloc: Global,
     trays: &mut [T],
     racks: &mut [R],
-    bare: &PageParts,
+    outline: &PageParts,
     plan: &StripPlan,
     plates: &[OpenPlate],
     first: &Span,
-    room: &mut StreamRoom,
+    workspace: &mut StreamWorkspace,
 ) -> Result<Span, StreamError>
-    requires can { CanStream bare.now plan.now }
-    requires headers { HaveHeader bare.now plates.now }
+    requires can { CanStream outline.now plan.now }
+    requires headers { HaveHeader outline.now plates.now }
     requires trays { length plates.now ≤ length trays.old }
     requires racks { length plates.now ≤ length racks.old }
     requires first { IsStripRow plan.now.down first.now }
-    requires room { IsStreamRoom bare.now plan.now room.old }
-    requires way { IsUnderWay bare.now plan.now plates.now first.now (map T.state trays.old)
-        (map R.state racks.old) room.old }
+    requires workspace { IsStreamWorkspace outline.now plan.now workspace.old }
+    requires way { IsUnderWay outline.now plan.now plates.now first.now (map T.state trays.old)
+        (map R.state racks.old) workspace.old }
     ensures last { IfOk result (IsLastRow plan.now) }
-    ensures room { OnOk result (IsStreamRoom bare.now plan.now room.new) }
-    ensures reaches { ReachesLast bare.now plan.now plates.now first.now (map T.state trays.old)
-        (map T.state trays.new) (map R.state racks.old) (map R.state racks.new) room.old room.new
+    ensures workspace { OnOk result (IsStreamWorkspace outline.now plan.now workspace.new) }
+    ensures reaches { ReachesLast outline.now plan.now plates.now first.now (map T.state trays.old)
+        (map T.state trays.new) (map R.state racks.old) (map R.state racks.new) workspace.old workspace.new
         result }
 {
     let progress = progress_after(&plan.down, first);
@@ -131,11 +135,13 @@ fn reach_last<H: Threads + Sync, T: Tray, R: Rack>(
         return Ok(*first);
     }
     let second = next_row(&plan.down, progress);
-    match trap_first(rt, alloc, trays, bare, plan, plates, first, &second, room) {
+    match trap_first(
+        rt, alloc, trays, outline, plan, plates, first, &second, workspace,
+    ) {
         Ok(()) => go_on(
-            rt, alloc, trays, racks, bare, plan, plates, first, &second, room,
+            rt, alloc, trays, racks, outline, plan, plates, first, &second, workspace,
         ),
-        Err(stop) => Err(StreamError::Unread(stop)),
+        Err(error) => Err(StreamError::Unread(error)),
     }
 }
 
@@ -145,27 +151,27 @@ fn go_on<H: Threads + Sync, T: Tray, R: Rack>(
     alloc: Global,
     trays: &mut [T],
     racks: &mut [R],
-    bare: &PageParts,
+    outline: &PageParts,
     plan: &StripPlan,
     plates: &[OpenPlate],
     first: &Span,
     second: &Span,
-    room: &mut StreamRoom,
+    workspace: &mut StreamWorkspace,
 ) -> Result<Span, StreamError>
-    requires can { CanStream bare.now plan.now }
-    requires headers { HaveHeader bare.now plates.now }
+    requires can { CanStream outline.now plan.now }
+    requires headers { HaveHeader outline.now plates.now }
     requires trays { length plates.now ≤ length trays.old }
     requires racks { length plates.now ≤ length racks.old }
     requires second { IsStripRow plan.now.down second.now }
-    requires room { IsStreamRoom bare.now plan.now room.old }
-    requires waiting { IsWaiting plan.now first.now room.old.ahead room.old.core }
-    requires way { IsAwaiting bare.now plan.now plates.now first.now second.now
-        (map T.state trays.old) (map R.state racks.old) room.old }
+    requires workspace { IsStreamWorkspace outline.now plan.now workspace.old }
+    requires waiting { IsWaiting plan.now first.now workspace.old.ahead workspace.old.core }
+    requires way { IsAwaiting outline.now plan.now plates.now first.now second.now
+        (map T.state trays.old) (map R.state racks.old) workspace.old }
     ensures last { IfOk result (IsLastRow plan.now) }
-    ensures room { OnOk result (IsStreamRoom bare.now plan.now room.new) }
-    ensures reaches { Reaches bare.now plan.now plates.now first.now second.now
+    ensures workspace { OnOk result (IsStreamWorkspace outline.now plan.now workspace.new) }
+    ensures reaches { Reaches outline.now plan.now plates.now first.now second.now
         (map T.state trays.old) (map T.state trays.new) (map R.state racks.old)
-        (map R.state racks.new) room.old room.new result }
+        (map R.state racks.new) workspace.old workspace.new result }
 {
     let mut last = *first;
     let mut row = *second;
@@ -173,18 +179,25 @@ fn go_on<H: Threads + Sync, T: Tray, R: Rack>(
     while progress.at < plan.down.side {
         let next = next_row(&plan.down, progress);
         match stream_strip(
-            rt, alloc, trays, racks, bare, plan, plates, &last, &row, &next, room,
+            rt, alloc, trays, racks, outline, plan, plates, &last, &row, &next, workspace,
         ) {
             Ok(()) => {
                 last = row;
                 row = next;
                 progress = progress_after(&plan.down, &row);
             }
-            Err(stop) => return Err(stop),
+            Err(error) => return Err(error),
         }
     }
-    match write_waiting(alloc, racks, plan, &last, &mut room.ahead, &mut room.core) {
+    match write_waiting(
+        alloc,
+        racks,
+        plan,
+        &last,
+        &mut workspace.ahead,
+        &mut workspace.core,
+    ) {
         Ok(()) => Ok(row),
-        Err(refusal) => Err(StreamError::Unwritten(refusal)),
+        Err(common_error) => Err(StreamError::Unwritten(common_error)),
     }
 }

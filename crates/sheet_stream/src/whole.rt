@@ -1,40 +1,40 @@
 // A sheet that is not cut into strips, read once more with all its rows.
 
 ghost use Rattle.std.specs.Prelude.{◌≡◌, ◌<◌, ◌≤◌, ◌^◌, IfOk, length, map};
-ghost use Rattle.sheet_geometry.specs.Bare.{IsBareSheet};
+ghost use Rattle.sheet_geometry.specs.Outline.{IsOutlineSheet};
 ghost use Rattle.page_model.specs.Page.{height, plates, width};
 ghost use Rattle.sheet_stream.specs.Second.{IsBegun, sheet_header};
-ghost use Rattle.sheet_stream.specs.Whole.{EndsHeld, HoldsSheet, all_rows};
+ghost use Rattle.sheet_stream.specs.Whole.{EndsStored, HoldsSheet, all_rows};
 ghost use Rattle.sheet_stream.specs.RowReading.{HaveHeader};
-ghost use Rattle.sheet_stream.specs.HeldStrips.{IsStripOf};
+ghost use Rattle.sheet_stream.specs.StoredStrips.{IsStripOf};
 
+use crate::stored_rows::read_strip;
+use crate::stored_strip::first_strip;
 use outside::tray::Tray;
 use page_model::bounds::MOST_PLATES;
 use page_model::parts::{OutOfMemory, PageParts};
 use pgm_plates::rows::{Header, OpenPlate};
+use plate_rows::error::RereadError;
 use plate_rows::rereading::{begin_plates, end_plates};
-use plate_rows::stop::RereadError;
-use crate::held_rows::read_strip;
-use crate::held_strip::first_strip;
 use sheet_geometry::spans::Span;
 use std::alloc::Global;
 use std::convert::AsStr;
 
 /// Allocates a sheet with all its rows, as one strip. It fails only where memory runs out.
-pub fn sheet_room(alloc: Global, bare: &PageParts) -> Result<PageParts, OutOfMemory>
-    requires bare { IsBareSheet bare.now }
-    requires narrow { width bare.now < 2 ^ 30 }
-    requires low { height bare.now < 2 ^ 30 }
-    ensures { IfOk result (IsStripOf bare.now (all_rows bare.now)) }
+pub fn sheet_workspace(alloc: Global, outline: &PageParts) -> Result<PageParts, OutOfMemory>
+    requires outline { IsOutlineSheet outline.now }
+    requires narrow { width outline.now < 2 ^ 30 }
+    requires low { height outline.now < 2 ^ 30 }
+    ensures { IfOk result (IsStripOf outline.now (all_rows outline.now)) }
 {
-    let height = bare.planes.as_slice()[0].height;
+    let height = outline.planes.as_slice()[0].height;
     let row = Span {
         from: 0,
         wide: height,
         skip: 0,
         core: height,
     };
-    first_strip(alloc, bare, &row)
+    first_strip(alloc, outline, &row)
 }
 
 /// Reads the plates of a sheet that was checked once more, plate k by tray k, with all their rows into the memory that
@@ -47,26 +47,26 @@ pub fn hold_sheet<T: Tray, S: AsStr>(
     alloc: Global,
     trays: &mut [T],
     inputs: &[S],
-    bare: &PageParts,
+    outline: &PageParts,
     header: Header,
     sheet: &mut PageParts,
     bytes: &mut [u8],
 ) -> Result<(), RereadError>
-    requires bare { IsBareSheet bare.now }
-    requires header { header ≡ sheet_header bare.now }
-    requires inputs { length inputs.now ≡ plates bare.now }
-    requires trays { plates bare.now ≤ length trays.old }
-    requires room { IsStripOf bare.now (all_rows bare.now) sheet.old }
+    requires outline { IsOutlineSheet outline.now }
+    requires header { header ≡ sheet_header outline.now }
+    requires inputs { length inputs.now ≡ plates outline.now }
+    requires trays { plates outline.now ≤ length trays.old }
+    requires workspace { IsStripOf outline.now (all_rows outline.now) sheet.old }
     requires bytes { 2 ≤ length bytes.old }
-    ensures { HoldsSheet (map S.text inputs.now) bare.now sheet.new (map T.state trays.old)
+    ensures { HoldsSheet (map S.text inputs.now) outline.now sheet.new (map T.state trays.old)
         (map T.state trays.new) result }
 {
     let none = OpenPlate { header, size: 0 };
     let mut plates = [none; MOST_PLATES];
     let headers = [header; MOST_PLATES];
     match begin_plates(trays, inputs, &headers, &mut plates) {
-        Ok(()) => hold_begun(alloc, trays, bare, &plates[..inputs.len()], sheet, bytes),
-        Err(stop) => Err(stop),
+        Ok(()) => hold_begun(alloc, trays, outline, &plates[..inputs.len()], sheet, bytes),
+        Err(error) => Err(error),
     }
 }
 
@@ -74,22 +74,22 @@ pub fn hold_sheet<T: Tray, S: AsStr>(
 fn hold_begun<T: Tray>(
     alloc: Global,
     trays: &mut [T],
-    bare: &PageParts,
+    outline: &PageParts,
     plates: &[OpenPlate],
     sheet: &mut PageParts,
     bytes: &mut [u8],
 ) -> Result<(), RereadError>
-    requires bare { IsBareSheet bare.now }
-    requires headers { HaveHeader bare.now plates.now }
+    requires outline { IsOutlineSheet outline.now }
+    requires headers { HaveHeader outline.now plates.now }
     requires trays { length plates.now ≤ length trays.old }
-    requires room { IsStripOf bare.now (all_rows bare.now) sheet.old }
+    requires workspace { IsStripOf outline.now (all_rows outline.now) sheet.old }
     requires bytes { 2 ≤ length bytes.old }
     requires read { IsBegun plates.now (map T.state trays.old) }
-    ensures { EndsHeld bare.now plates.now sheet.new (map T.state trays.old)
+    ensures { EndsStored outline.now plates.now sheet.new (map T.state trays.old)
         (map T.state trays.new) result }
 {
     match read_strip(alloc, trays, plates, sheet, bytes) {
         Ok(()) => end_plates(trays, plates),
-        Err(stop) => Err(stop),
+        Err(error) => Err(error),
     }
 }

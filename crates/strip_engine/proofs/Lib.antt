@@ -1,3 +1,3 @@
 pub mod WholeLemmas
 pub mod ZoneRows
-pub mod RoomLemmas
+pub mod WorkspaceLemmas

@@ -1,5 +1,5 @@
 pub mod StripBuffers
-pub mod Rooms
+pub mod Workspaces
 pub mod Rows
 pub mod Taken
 pub mod Whole

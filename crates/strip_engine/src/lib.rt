@@ -4,11 +4,11 @@
 mod alone;
 mod grid;
 mod marks;
-mod room;
 mod strips;
+mod workspace;
 mod zones;
 
 pub use alone::trap_alone;
 pub use marks::{marks_of_row, zones_of_row};
-pub use room::PageRoom;
 pub use strips::StripBuffers;
+pub use workspace::PageWorkspace;

@@ -58,13 +58,18 @@ pub fn fill_marks(page: &Page, zones: &[u8], out: &mut [u8])
     make_marks(page, rows, rows, zones, out);
 }
 
-/// The marks of the rows `held`, out of those of the page.
-pub fn marks_between<'a>(page: &Page, marks: &'a [u8], held: Rows) -> &'a [u8]
+/// The marks of the rows `stored`, out of those of the page.
+pub fn marks_between<'a>(page: &Page, marks: &'a [u8], stored: Rows) -> &'a [u8]
     requires marks { marks.now ≡ sample_marks page.now }
-    requires some { 1 ≤ held.count }
-    requires inside { held.first + held.count ≤ height page.now }
-    ensures { HoldsMarks page.now held result.now }
+    requires some { 1 ≤ stored.count }
+    requires inside { stored.first + stored.count ≤ height page.now }
+    ensures { HoldsMarks page.now stored result.now }
 {
     let _valid = page.plates();
-    rows_between(marks, page.width(), held.first, held.first + held.count)
+    rows_between(
+        marks,
+        page.width(),
+        stored.first,
+        stored.first + stored.count,
+    )
 }

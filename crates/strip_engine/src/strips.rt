@@ -2,7 +2,7 @@
 
 ghost use Rattle.std.specs.Prelude.{◌≡◌, ◌<◌, ◌≤◌, ◌+◌, ◌*◌, ◌-◌, IfOk, MatchOption, length};
 ghost use Rattle.row_values.specs.Arms.{AreAnswers};
-ghost use Rattle.row_values.specs.Room.{Serves};
+ghost use Rattle.row_values.specs.Workspace.{Serves};
 ghost use Rattle.row_values.specs.Rows.{HoldsAnswers, doubled};
 ghost use Rattle.page_model.specs.Page.{height};
 ghost use Rattle.page_model.specs.Reach.{page_reach};
@@ -19,7 +19,7 @@ use lists::memory::vec_of;
 use page_model::page::Page;
 use page_model::parts::OutOfMemory;
 use page_tally::Outcome;
-use row_values::{Rows, Workspace, is_quiet, make_answers, make_row, row_of};
+use row_values::{RowBuffers, Rows, is_quiet, make_answers, make_row, row_of};
 use std::alloc::Global;
 
 /// The greatest number of rows of a strip.
@@ -47,13 +47,13 @@ pub fn new_buffers(alloc: Global, page: &Page) -> Result<StripBuffers, OutOfMemo
 }
 
 /// Writes the zones and marks of the page's samples to buffers for pages of its shape.
-pub fn fill_buffers(page: &Page, buffers: &mut StripBuffers, room: &mut Workspace)
+pub fn fill_buffers(page: &Page, buffers: &mut StripBuffers, workspace: &mut RowBuffers)
     requires buffers { HasPlaces (shape_of page.now) buffers.old }
-    requires room { Serves room.old page.now }
+    requires workspace { Serves workspace.old page.now }
     ensures buffers { AreBuffers page.now buffers.new }
-    ensures room { room.new ≡ room.old }
+    ensures workspace { workspace.new ≡ workspace.old }
 {
-    fill_zones(page, &mut buffers.zones, room);
+    fill_zones(page, &mut buffers.zones, workspace);
     fill_marks(page, &buffers.zones, &mut buffers.marks);
 }
 
@@ -87,17 +87,17 @@ fn trap_row(
     y: u32,
     codes: &[u16],
     buffers: &mut StripBuffers,
-    room: &mut Workspace,
+    workspace: &mut RowBuffers,
     counted: bool,
     outcome: &mut Outcome,
 )
     requires line { y < height page.now }
     requires codes { AreAnswers page.now (page_reach page.now) y (doubled page.now) codes.now }
     requires buffers { AreBuffers page.now buffers.old }
-    requires room { Serves room.old page.now }
+    requires workspace { Serves workspace.old page.now }
     requires outcome { IsTaken page.now y counted outcome.old }
     ensures buffers { AreBuffers page.now buffers.new }
-    ensures room { room.new ≡ room.old }
+    ensures workspace { workspace.new ≡ workspace.old }
     ensures outcome { IsTaken page.now (y + 1) counted outcome.new }
 {
     let zones = zones_of_row(page, &buffers.zones, y);
@@ -106,7 +106,7 @@ fn trap_row(
         take_row(page, y, zones, marks, None, counted, outcome);
         return;
     }
-    make_row(page, y, zones, codes, &mut buffers.row, room);
+    make_row(page, y, zones, codes, &mut buffers.row, workspace);
     let tints = Some(buffers.row.as_slice());
     take_row(page, y, zones, marks, tints, counted, outcome);
 }
@@ -117,17 +117,17 @@ fn trap_rows(
     rows: Rows,
     codes: &[u16],
     buffers: &mut StripBuffers,
-    room: &mut Workspace,
+    workspace: &mut RowBuffers,
     counted: bool,
     outcome: &mut Outcome,
 )
     requires inside { rows.first + rows.count ≤ height page.now }
     requires codes { HoldsAnswers page.now rows codes.now }
     requires buffers { AreBuffers page.now buffers.old }
-    requires room { Serves room.old page.now }
+    requires workspace { Serves workspace.old page.now }
     requires outcome { IsTaken page.now rows.first counted outcome.old }
     ensures buffers { AreBuffers page.now buffers.new }
-    ensures room { room.new ≡ room.old }
+    ensures workspace { workspace.new ≡ workspace.old }
     ensures outcome { IsTaken page.now (rows.first + rows.count) counted outcome.new }
 {
     let wide = 2 * page.width() as usize - 1;
@@ -138,7 +138,7 @@ fn trap_rows(
             rows.first + k,
             answers,
             buffers,
-            room,
+            workspace,
             counted,
             outcome,
         );
@@ -151,7 +151,7 @@ fn trap_strip(
     rows: Rows,
     codes: &mut [u16],
     buffers: &mut StripBuffers,
-    room: &mut Workspace,
+    workspace: &mut RowBuffers,
     counted: bool,
     outcome: &mut Outcome,
 )
@@ -159,23 +159,23 @@ fn trap_strip(
     requires inside { rows.first + rows.count ≤ height page.now }
     requires codes { length codes.old ≡ rows.count * doubled page.now }
     requires buffers { AreBuffers page.now buffers.old }
-    requires room { Serves room.old page.now }
+    requires workspace { Serves workspace.old page.now }
     requires outcome { IsTaken page.now rows.first counted outcome.old }
     ensures codes { length codes.new ≡ length codes.old }
     ensures buffers { AreBuffers page.now buffers.new }
-    ensures room { room.new ≡ room.old }
+    ensures workspace { workspace.new ≡ workspace.old }
     ensures outcome { IsTaken page.now (rows.first + rows.count) counted outcome.new }
 {
     let halo = page.reach2().div_ceil(2);
     let first = rows.first.saturating_sub(halo);
     let to = (rows.first + rows.count + halo).min(page.height());
-    let held = Rows {
+    let stored = Rows {
         first,
         count: to - first,
     };
-    let near = marks_between(page, &buffers.marks, held);
-    make_answers(page, rows, held, near, codes);
-    trap_rows(page, rows, codes, buffers, room, counted, outcome);
+    let near = marks_between(page, &buffers.marks, stored);
+    make_answers(page, rows, stored, near, codes);
+    trap_rows(page, rows, codes, buffers, workspace, counted, outcome);
 }
 
 /// Traps the page, strip by strip, and counts its rows if that is asked. `codes` is a buffer for the column answers of
@@ -184,17 +184,17 @@ pub fn trap_strips(
     page: &Page,
     codes: &mut [u16],
     buffers: &mut StripBuffers,
-    room: &mut Workspace,
+    workspace: &mut RowBuffers,
     counted: bool,
     outcome: &mut Outcome,
 )
     requires codes { length codes.old ≡ 64 * doubled page.now }
     requires buffers { AreBuffers page.now buffers.old }
-    requires room { Serves room.old page.now }
+    requires workspace { Serves workspace.old page.now }
     requires outcome { IsTaken page.now 0 counted outcome.old }
     ensures codes { length codes.new ≡ length codes.old }
     ensures buffers { AreBuffers page.now buffers.new }
-    ensures room { room.new ≡ room.old }
+    ensures workspace { workspace.new ≡ workspace.old }
     ensures outcome { IsTaken page.now (height page.now) counted outcome.new }
 {
     let height = page.height();
@@ -208,7 +208,7 @@ pub fn trap_strips(
             Rows { first, count },
             codes,
             buffers,
-            room,
+            workspace,
             counted,
             outcome,
         );

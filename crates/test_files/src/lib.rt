@@ -107,14 +107,14 @@ pub fn tray_of(alloc: Global, files: FileList, grain: usize, call: Option<u64>) 
     Some(MemTray::new(alloc, files, grain, fails))
 }
 
-/// An empty rack, of which each write takes at most `grain` bytes and all together at most `room`, and that call fails.
+/// An empty rack, of which each write takes at most `grain` bytes and all together at most `workspace`, and that call fails.
 pub fn rack_of(
     alloc: Global,
     grain: usize,
-    room: u64,
+    workspace: u64,
     call: Option<u64>,
 ) -> Result<MemRack, AllocError>
     requires { 0 < grain }
 {
-    Ok(MemRack::new(alloc, grain, room, calls(alloc, call)?))
+    Ok(MemRack::new(alloc, grain, workspace, calls(alloc, call)?))
 }

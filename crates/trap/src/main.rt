@@ -2,9 +2,9 @@
 #![tactic(auto)]
 
 use band_claims::OpenGate;
+use common_errors::words::words;
 use outside::disk_rack::DiskRack;
 use outside::disk_tray::DiskTray;
-use refusals::words::words;
 use std::process::ExitCode;
 use trap_cli::top::trap_main;
 

@@ -42,7 +42,7 @@ window_done most asked place before after text text' len d works cores tells win
           page_is = works.1;
           core = core;
           rest = λ k beside. cores.rest k (λ c y lc ly. beside c y (omega (arith, lc, many)) ly);
-          told = subst (λ (t : List ℕ). Tells t text text' len) worked.report tells;
+          reported = subst (λ (t : List ℕ). Tells t text text' len) worked.report tells;
           sheets = λ job sheet read of. on_sheet_is asked place before page sheet job works.5 works.4 (made_window most asked place before page job works.1 read) of after core windows tiles;
         },
       );

@@ -12,13 +12,13 @@ use Rattle.page_model.specs.Planes.{no_plane, plane_at}
 use Rattle.sheet_geometry.specs.declared.cuts.Cut.{Cut}
 use Rattle.sheet_geometry.specs.Areas.{changes_in, changes_plate, edges_at, lies_in}
 use Rattle.sheet_engine.specs.declared.counts.SheetCounts.{SheetCounts}
-use Rattle.sheet_engine.specs.Growth.{AddsArea, Grows, HasRoom, HasRooms, LiesOn}
+use Rattle.sheet_engine.specs.Growth.{AddsArea, Grows, HasWorkspace, HasWorkspaces, LiesOn}
 use Rattle.trap_c.specs.Cores.{AreNone, HasCounts, core_counts, sum_over}
 use Rattle.trap_report.specs.Report.{AreCounts}
 use Rattle.lists.proofs.ListBelow.{length-list_below}
 
-none_room : (n more : ℕ) (counts : List ℕ) → counts ≡ replicate n 0 → more < 2 ^ 64 → HasRoom n more counts
-none_room n more counts e few = record {
+none_workspace : (n more : ℕ) (counts : List ℕ) → counts ≡ replicate n 0 → more < 2 ^ 64 → HasWorkspace n more counts
+none_workspace n more counts e few = record {
   long = ap (λ (xs : List ℕ). length xs) e ∙ length-replicate n 0;
   low = λ z l. (let none : get_or counts z 0 ≡ 0 = ap (λ (xs : List ℕ). get_or xs z 0) e ∙ get_or-replicate n z 0 0 l in omega (arith, none, few));
 }
@@ -27,15 +27,15 @@ none_room n more counts e few = record {
 few_in : (w h : ℕ) → w ≤ 16384 → h ≤ 16384 → w * h ≤ 268435456
 few_in w h a b = (let m = mul-le-mul a b in omega (arith, m))
 
-pub rooms : (page : PageParts) (core : Cut) (counts : SheetCounts) → IsPage page → LiesOn page core → AreNone page counts → HasRooms page (core.width * core.height) counts
-rooms page core counts is lies none =
+pub workspaces : (page : PageParts) (core : Cut) (counts : SheetCounts) → IsPage page → LiesOn page core → AreNone page counts → HasWorkspaces page (core.width * core.height) counts
+workspaces page core counts is lies none =
     let some = is.parts.some_plates in
     let plane : IsPlane (plane_at page.planes 0) = is.parts.planes_in_range 0 no_plane (omega (arith, some)) in
     let few = few_in core.width core.height (omega (arith, lies.across, plane.narrow)) (omega (arith, lies.down, plane.low)) in
     record {
-      zone_samples = none_room (length page.zones) (core.width * core.height) counts.zone_samples.items none.zone_samples (omega (arith, few));
-      zone_changed = none_room (length page.zones) (core.width * core.height) counts.zone_changed.items none.zone_changed (omega (arith, few));
-      plate_changed = none_room (plates page) (core.width * core.height) counts.plate_changed.items none.plate_changed (omega (arith, few));
+      zone_samples = none_workspace (length page.zones) (core.width * core.height) counts.zone_samples.items none.zone_samples (omega (arith, few));
+      zone_changed = none_workspace (length page.zones) (core.width * core.height) counts.zone_changed.items none.zone_changed (omega (arith, few));
+      plate_changed = none_workspace (plates page) (core.width * core.height) counts.plate_changed.items none.plate_changed (omega (arith, few));
       edges = omega (arith, few, none.edges);
     }
 

@@ -15,8 +15,8 @@ use Rattle.page_model.specs.declared.parts.Plane.{Plane}
 use Rattle.page_model.specs.Conditions.{IsPlane}
 use Rattle.page_model.specs.Faults.{page_fault}
 use Rattle.page_model.specs.Planes.{no_plane, plane_at}
-use Rattle.refusals.specs.declared.refusal.Refusal.{Refusal}
-use Rattle.refusals.specs.declared.refusal.Refusal.TheVariants.{Memory}
+use Rattle.common_errors.specs.declared.common.CommonError.{CommonError}
+use Rattle.common_errors.specs.declared.common.CommonError.TheVariants.{Memory}
 use Rattle.trap_c.specs.declared.layout.Layout.{Layout}
 use Rattle.trap_c.specs.declared.planes.Copies.{Copies}
 use Rattle.trap_c.specs.Copies.{AreCopies}
@@ -76,10 +76,10 @@ is_fit planes c e l =
     none_found plane.maxval plane.tints (ltb (position_or_len (above plane.maxval) plane.tints) (length plane.tints)) refl (none_at c (position (above plane.maxval) plane.tints) (each_none (above_in planes) (length planes) e c l))
 
 -- one more plane is looked at
-pub found_more : (planes all : List Plane) (plane : Plane) (found later : Option Refusal) (c : ℕ) → all ≡ planes → c < length all → plane ≡ get_or all c plane → later ≡ above_at c (position (λ t. ltb plane.maxval t) plane.tints) → found ≡ first_some (above_in planes) c → or_else found later ≡ first_some (above_in planes) (c + 1)
+pub found_more : (planes all : List Plane) (plane : Plane) (found later : Option CommonError) (c : ℕ) → all ≡ planes → c < length all → plane ≡ get_or all c plane → later ≡ above_at c (position (λ t. ltb plane.maxval t) plane.tints) → found ≡ first_some (above_in planes) c → or_else found later ≡ first_some (above_in planes) (c + 1)
 found_more planes all plane found later c e l read is h =
     let same : plane ≡ plane_at planes c = read ∙ get_or_default all c plane no_plane l ∙ ap (λ (ps : List Plane). plane_at ps c) e in
-    rw (add-one c) (ap (λ (o : Option Refusal). or_else o later) h ∙ ap (λ (o : Option Refusal). or_else (first_some (above_in planes) c) o) (is ∙ ap (λ (p : Plane). above_at c (position (λ t. ltb p.maxval t) p.tints)) same))
+    rw (add-one c) (ap (λ (o : Option CommonError). or_else o later) h ∙ ap (λ (o : Option CommonError). or_else (first_some (above_in planes) c) o) (is ∙ ap (λ (p : Plane). above_at c (position (λ t. ltb p.maxval t) p.tints)) same))
 
 -- none is found where all are known to be fit
 no_place : (c : ℕ) (o : Option ℕ) → o ≡ None → above_at c o ≡ None
@@ -132,7 +132,7 @@ pub parts_made : (job : Job) (planes : List Plane) (names : List (List ℕ)) (pa
 parts_made job planes names page e = by_details (parts_of_planes job planes names) page (without_details job names) e
 
 -- it has the layout of the call
-pub fills_if : (job : Job) (layout : Layout) (planes : List Plane) (names : List (List ℕ)) (result : Result PageParts Refusal) → 1 ≤ length names → length planes ≡ length names → ((c : ℕ) → c < length planes → IsFull layout (plane_at planes c)) → MatchResult result (λ page. assembly_of_planes job planes names ≡ Ok page) (λ refusal. (refusal ≡ Memory) ⊎ (assembly_of_planes job planes names ≡ Err refusal)) → IfOk result (Fills layout (length names))
+pub fills_if : (job : Job) (layout : Layout) (planes : List Plane) (names : List (List ℕ)) (result : Result PageParts CommonError) → 1 ≤ length names → length planes ≡ length names → ((c : ℕ) → c < length planes → IsFull layout (plane_at planes c)) → MatchResult result (λ page. assembly_of_planes job planes names ≡ Ok page) (λ common_error. (common_error ≡ Memory) ⊎ (assembly_of_planes job planes names ≡ Err common_error)) → IfOk result (Fills layout (length names))
 fills_if job layout planes names (Ok page) some count full made = subst (λ (p : PageParts). Fills layout (length names) p) (sym (parts_made job planes names page made)) (record {
   wide = first.wide;
   tall = first.tall;
@@ -141,4 +141,4 @@ fills_if job layout planes names (Ok page) some count full made = subst (λ (p :
 }) where
   first : IsFull layout (plane_at planes 0)
   first = full 0 (omega (arith, some, count))
-fills_if job layout planes names (Err refusal) some count full made = tt
+fills_if job layout planes names (Err common_error) some count full made = tt

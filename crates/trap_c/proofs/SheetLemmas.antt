@@ -22,7 +22,7 @@ use Rattle.page_model.specs.Planes.{plane_at}
 use Rattle.page_model.specs.Reach.{page_reach, params_reach}
 use Rattle.page_model.specs.Tints.{new, new_tints, trapped_planes}
 use Rattle.ps_tokens.specs.declared.faults.JobFault.{JobFault}
-use Rattle.refusals.specs.declared.refusal.Refusal.{Refusal}
+use Rattle.common_errors.specs.declared.common.CommonError.{CommonError}
 use Rattle.sheet_geometry.specs.declared.cuts.Cut.{Cut}
 use Rattle.sheet_geometry.specs.Areas.{changes_in, changes_plate, edges_at, lies_in}
 use Rattle.sheet_geometry.specs.Tiles.{IsCore, IsTile, Tile, TileLaw}
@@ -31,12 +31,12 @@ use Rattle.sheet_geometry.specs.Windows.{IsCut, IsExact, moved_zone, points_of, 
 use Rattle.trap_c.specs.declared.layout.Layout.{Layout}
 use Rattle.trap_c.specs.declared.place.Along.{Along}
 use Rattle.trap_c.specs.declared.place.Place.{Place}
-use Rattle.trap_c.specs.declared.stop.CallFault.{CallFault}
-use Rattle.trap_c.specs.declared.stop.CallError.{CallError}
+use Rattle.trap_c.specs.declared.error.CallFault.{CallFault}
+use Rattle.trap_c.specs.declared.error.CallError.{CallError}
 use Rattle.trap_c.specs.Cores.{HaveCores, core_run, sum_over, tint_run}
 use Rattle.trap_c.specs.Fit.{AreSides, call_fault}
 use Rattle.trap_c.specs.Names.{names_in}
-use Rattle.trap_c.specs.Pages.{Fills, page_unless, stop_or, page_with}
+use Rattle.trap_c.specs.Pages.{Fills, page_unless, error_or, page_with}
 use Rattle.trap_c.specs.Places.{IsPlaced, across_of, core_of, cut_of, down_of, is_at_step, is_exact, is_place, is_wide, is_wide_along, job_halo, job_reach, rows_after, suits, tile_of}
 use Rattle.trap_c.specs.Planes.{planes_in}
 use Rattle.trap_c.specs.Requests.{Asked}
@@ -60,13 +60,13 @@ by_far : (o : Option ℕ) (made : Result PageParts CallError) (page : PageParts)
 by_far None made page e = e
 by_far (Some zone) made page e = absurd (cc)
 
-by_stop : (r : Result PageParts Refusal) (page : PageParts) → stop_or r ≡ Ok page → r ≡ Ok page
-by_stop (Ok made) page e = (let same : made ≡ page = cc in ap (λ (p : PageParts). Ok p) same)
-by_stop (Err refusal) page e = absurd (cc)
+by_error : (r : Result PageParts CommonError) (page : PageParts) → error_or r ≡ Ok page → r ≡ Ok page
+by_error (Ok made) page e = (let same : made ≡ page = cc in ap (λ (p : PageParts). Ok p) same)
+by_error (Err common_error) page e = absurd (cc)
 
-by_above : (o : Option Refusal) (made : Result PageParts Refusal) (page : PageParts) → page_unless o made ≡ Ok page → made ≡ Ok page
+by_above : (o : Option CommonError) (made : Result PageParts CommonError) (page : PageParts) → page_unless o made ≡ Ok page → made ≡ Ok page
 by_above None made page e = e
-by_above (Some refusal) made page e = absurd (cc)
+by_above (Some common_error) made page e = absurd (cc)
 
 by_job : (layout : Layout) (place : Place) (r : Result Job JobFault) (names : List (List ℕ)) (planes : List Plane) (page : PageParts) → window_by layout place r names planes ≡ Ok page → (job : Job) × (r ≡ Ok job) × (window_with layout place job names planes ≡ Ok page)
 by_job layout place (Ok job) names planes page e = (job, refl, e)
@@ -90,7 +90,7 @@ made_window most asked place before page job e read =
     let suited = by_place (suits job layout place) _ page given in
     let moved = moved_job layout place job in
     let near = by_far (first_far moved.zones) _ page suited.1 in
-    let all = by_above _ _ page (by_stop (page_with moved names planes) page near) in
+    let all = by_above _ _ page (by_error (page_with moved names planes) page near) in
     record { suited = suited.0; page_is = parts_made moved planes names page all }
 
 -- the sheet's window there is that page

@@ -6,17 +6,17 @@ use Rattle.page_model.specs.Conditions.{IsPlane}
 use Rattle.page_model.specs.Counts.{page_counts}
 use Rattle.page_model.specs.Page.{plates}
 use Rattle.page_model.specs.Tints.{trapped_planes}
-use Rattle.refusals.specs.declared.refusal.Refusal.TheVariants.{Memory}
+use Rattle.common_errors.specs.declared.common.CommonError.TheVariants.{Memory}
 use Rattle.trap_report.specs.Report.{report_of}
-use Rattle.refusals.specs.Statuses.{done}
+use Rattle.common_errors.specs.Statuses.{done}
 use Rattle.trap_c.specs.declared.layout.Layout.{Layout}
-use Rattle.trap_c.specs.declared.stop.CallError.{CallError}
-use Rattle.trap_c.specs.declared.stop.CallError.TheVariants.{Page}
+use Rattle.trap_c.specs.declared.error.CallError.{CallError}
+use Rattle.trap_c.specs.declared.error.CallError.TheVariants.{Page}
 use Rattle.trap_c.specs.declared.work.Done.{Done}
 use Rattle.trap_c.specs.Pages.{Fills, call_page}
 use Rattle.trap_c.specs.Planes.{KeepsGaps, planes_in}
 use Rattle.trap_c.specs.Requests.{Asked}
-use Rattle.trap_c.specs.Stops.{status_of_stop, line_of_stop}
+use Rattle.trap_c.specs.Errors.{status_of_error, line_of_error}
 use Rattle.page_model.specs.Limits.{most_plates}
 
 -- As much of a text as fits is written to the start of a buffer, the rest of which stays, and the
@@ -49,7 +49,7 @@ abbrev pub Works : ℕ → Layout → List ℕ → Result PageParts CallError �
 Works most layout before made (Ok work) =
     (page : PageParts) × (made ≡ Ok page)
     × IsWorked most layout before page (report_of page (page_counts page)) work
-Works most layout before made (Err stop) = (stop ≡ Page Memory) ⊎ (made ≡ Err stop)
+Works most layout before made (Err error) = (error ≡ Page Memory) ⊎ (made ≡ Err error)
 
 -- A call that is done: it was for a page, the samples hold the planes of that page after
 -- trapping, what stands after the ends of rows stays, and the text is the report.
@@ -65,11 +65,11 @@ Succeeds most asked before after text text' len =
 -- the arguments call for, or of memory that was refused.
 abbrev pub Refuses : ℕ → Asked → List ℕ → List ℕ → List ℕ → List ℕ → ℕ → ℕ → Type 0
 Refuses most asked before after text text' len status =
-    (stop : CallError)
-    × (status ≡ status_of_stop stop)
+    (error : CallError)
+    × (status ≡ status_of_error error)
     × (after ≡ before)
-    × Tells (line_of_stop stop) text text' len
-    × ((stop ≡ Page Memory) ⊎ (call_page most asked before ≡ Err stop))
+    × Tells (line_of_error error) text text' len
+    × ((error ≡ Page Memory) ⊎ (call_page most asked before ≡ Err error))
 
 -- What a call does to the samples, which hold numbers up to `most`, to the text and to its length,
 -- by its status.

@@ -7,11 +7,11 @@ use Rattle.page_model.specs.declared.parts.Plane.{Plane}
 use Rattle.page_model.specs.Limits.{most_maxval, most_plates, most_samples, most_side}
 use Rattle.page_model.specs.Planes.{plane_at}
 use Rattle.pgm_plates.specs.declared.plate.PlateFault.TheVariants.{SampleAboveMaxval}
-use Rattle.refusals.specs.declared.refusal.Refusal.{Refusal}
-use Rattle.refusals.specs.declared.refusal.Refusal.TheVariants.{Plate}
+use Rattle.common_errors.specs.declared.common.CommonError.{CommonError}
+use Rattle.common_errors.specs.declared.common.CommonError.TheVariants.{Plate}
 use Rattle.trap_c.specs.declared.layout.Layout.{Layout}
-use Rattle.trap_c.specs.declared.stop.CallFault.{CallFault}
-use Rattle.trap_c.specs.declared.stop.CallFault.TheVariants.{Names, Sides, Step, Maxval, Samples}
+use Rattle.trap_c.specs.declared.error.CallFault.{CallFault}
+use Rattle.trap_c.specs.declared.error.CallFault.TheVariants.{Names, Sides, Step, Maxval, Samples}
 use Rattle.trap_c.specs.Names.{are_names}
 use Rattle.trap_c.specs.Planes.{size}
 
@@ -70,17 +70,17 @@ ArePlanesFit planes =
     (c : ℕ) → c < length planes → AreFit (plane_at planes c).maxval (plane_at planes c).tints
 
 -- a tint above the maxval, at that place of plane c
-abbrev pub above_at : ℕ → Option ℕ → Option Refusal
+abbrev pub above_at : ℕ → Option ℕ → Option CommonError
 above_at c None = None
 above_at c (Some at) = Some (Plate c (SampleAboveMaxval at))
 
 -- the first tint of plane c that is above its maxval
-abbrev pub above_in : List Plane → ℕ → Option Refusal
+abbrev pub above_in : List Plane → ℕ → Option CommonError
 above_in planes c =
     above_at c (position (λ t. nat_lt (plane_at planes c).maxval t) (plane_at planes c).tints)
 
 -- the first of all planes
-abbrev pub first_above : List Plane → Option Refusal
+abbrev pub first_above : List Plane → Option CommonError
 first_above planes = first_some (above_in planes) (length planes)
 
 -- A plane in range, but for tints above its maxval.

@@ -1,7 +1,7 @@
 -- The definitions of trap_c, lowest first.
 pub mod Names
 pub mod Requests
-pub mod Stops
+pub mod Errors
 pub mod Planes
 pub mod Sources
 pub mod Fit

@@ -7,46 +7,46 @@ use Rattle.page_model.specs.declared.parts.PageParts.{PageParts}
 use Rattle.page_model.specs.declared.parts.Plane.{Plane}
 use Rattle.page_model.specs.Page.{plates, width, height, maxval}
 use Rattle.ps_tokens.specs.declared.faults.JobFault.{JobFault}
-use Rattle.refusals.specs.declared.refusal.Refusal.{Refusal}
-use Rattle.refusals.specs.declared.refusal.Refusal.TheVariants.{Job as JobRefusal, Memory}
+use Rattle.common_errors.specs.declared.common.CommonError.{CommonError}
+use Rattle.common_errors.specs.declared.common.CommonError.TheVariants.{Job as JobError, Memory}
 use Rattle.trap_c.specs.declared.layout.Layout.{Layout}
-use Rattle.trap_c.specs.declared.stop.CallFault.{CallFault}
-use Rattle.trap_c.specs.declared.stop.CallError.{CallError}
-use Rattle.trap_c.specs.declared.stop.CallError.TheVariants.{Call, Page}
+use Rattle.trap_c.specs.declared.error.CallFault.{CallFault}
+use Rattle.trap_c.specs.declared.error.CallError.{CallError}
+use Rattle.trap_c.specs.declared.error.CallError.TheVariants.{Call, Page}
 use Rattle.trap_c.specs.Requests.{Asked}
 use Rattle.trap_c.specs.Names.{names_in}
 use Rattle.trap_c.specs.Fit.{call_fault, first_above}
 use Rattle.trap_c.specs.Planes.{planes_in}
 
 -- the page that is made, where no tint is above the maxval
-abbrev pub page_unless : Option Refusal → Result PageParts Refusal → Result PageParts Refusal
-page_unless (Some refusal) made = Err refusal
+abbrev pub page_unless : Option CommonError → Result PageParts CommonError → Result PageParts CommonError
+page_unless (Some common_error) made = Err common_error
 page_unless None made = made
 
 -- the page of a job and these planes
-abbrev pub page_with : Job → List (List ℕ) → List Plane → Result PageParts Refusal
+abbrev pub page_with : Job → List (List ℕ) → List Plane → Result PageParts CommonError
 page_with job names planes =
     page_unless (first_above planes) (assembly_of_planes job planes names)
 
 -- the page of a job that was read, or the job's fault
 abbrev pub page_by :
-    Result Job JobFault → List (List ℕ) → List Plane → Result PageParts Refusal
+    Result Job JobFault → List (List ℕ) → List Plane → Result PageParts CommonError
 page_by (Ok job) names planes = page_with job names planes
-page_by (Err fault) names planes = Err (JobRefusal fault)
+page_by (Err fault) names planes = Err (JobError fault)
 
 -- the page, or why there is none: the job is judged, then the tints, then what they make
-abbrev pub page_of : List ℕ → List (List ℕ) → List Plane → Result PageParts Refusal
+abbrev pub page_of : List ℕ → List (List ℕ) → List Plane → Result PageParts CommonError
 page_of job names planes = page_by (job_of job) names planes
 
--- a page that was made, or the refusal
-abbrev pub stop_or : Result PageParts Refusal → Result PageParts CallError
-stop_or (Ok page) = Ok page
-stop_or (Err refusal) = Err (Page refusal)
+-- a page that was made, or the error
+abbrev pub error_or : Result PageParts CommonError → Result PageParts CallError
+error_or (Ok page) = Ok page
+error_or (Err common_error) = Err (Page common_error)
 
 -- where the arguments have no fault
-abbrev pub call_unless : Option CallFault → Result PageParts Refusal → Result PageParts CallError
+abbrev pub call_unless : Option CallFault → Result PageParts CommonError → Result PageParts CallError
 call_unless (Some fault) made = Err (Call fault)
-call_unless None made = stop_or made
+call_unless None made = error_or made
 
 -- the page of these names: the arguments are judged, and then the job and the planes
 abbrev pub named_page : ℕ → List ℕ → List (List ℕ) → Layout → List ℕ → Result PageParts CallError
@@ -60,9 +60,9 @@ call_page most asked samples =
     named_page most asked.job (names_in asked.names) asked.layout samples
 
 -- A result of what is asked for, or that memory was refused.
-abbrev pub Gives : Result PageParts Refusal → Result PageParts Refusal → Type 0
+abbrev pub Gives : Result PageParts CommonError → Result PageParts CommonError → Type 0
 Gives made (Ok page) = made ≡ Ok page
-Gives made (Err refusal) = (refusal ≡ Memory) ⊎ (made ≡ Err refusal)
+Gives made (Err common_error) = (common_error ≡ Memory) ⊎ (made ≡ Err common_error)
 
 -- A page of that layout, with `count` plates.
 pub record Fills (layout : Layout) (count : ℕ) (page : PageParts) : Type 0 where

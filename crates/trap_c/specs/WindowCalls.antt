@@ -8,10 +8,10 @@ use Rattle.page_model.specs.declared.parts.PageParts.{PageParts}
 use Rattle.page_model.specs.Page.{height, plates, width}
 use Rattle.page_model.specs.Tints.{new}
 use Rattle.ps_tokens.specs.declared.faults.JobFault.{JobFault}
-use Rattle.ps_tokens.specs.declared.faults.JobRefusal.{JobRefusal}
-use Rattle.ps_tokens.specs.declared.faults.JobRefusal.TheVariants.{Fault, OutOfMemory}
-use Rattle.refusals.specs.declared.refusal.Refusal.TheVariants.{Job as JobFaulty, Memory}
-use Rattle.refusals.specs.Statuses.{done}
+use Rattle.ps_tokens.specs.declared.faults.JobError.{JobError}
+use Rattle.ps_tokens.specs.declared.faults.JobError.TheVariants.{Fault, OutOfMemory}
+use Rattle.common_errors.specs.declared.common.CommonError.TheVariants.{Job as JobFaulty, Memory}
+use Rattle.common_errors.specs.Statuses.{done}
 use Rattle.sheet_geometry.specs.Areas.{area_sum, changes_in, changes_plate, edges_at, lies_in}
 use Rattle.sheet_geometry.specs.Sheets.{IsSheet}
 use Rattle.sheet_geometry.specs.Tiles.{IsTile}
@@ -19,8 +19,8 @@ use Rattle.sheet_geometry.specs.Windows.{shown_plane, window}
 use Rattle.sheet_engine.specs.Growth.{LiesOn}
 use Rattle.trap_c.specs.declared.layout.Layout.{Layout}
 use Rattle.trap_c.specs.declared.place.Place.{Place}
-use Rattle.trap_c.specs.declared.stop.CallError.{CallError}
-use Rattle.trap_c.specs.declared.stop.CallError.TheVariants.{Page}
+use Rattle.trap_c.specs.declared.error.CallError.{CallError}
+use Rattle.trap_c.specs.declared.error.CallError.TheVariants.{Page}
 use Rattle.trap_c.specs.declared.work.Done.{Done}
 use Rattle.trap_c.specs.Calls.{IsWorked, Tells}
 use Rattle.trap_c.specs.Cores.{IsBeside, core_counts, core_run, sum_over}
@@ -29,7 +29,7 @@ use Rattle.trap_c.specs.Names.{names_in}
 use Rattle.trap_c.specs.Places.{IsPlaced, core_of, cut_of, job_halo, tile_of}
 use Rattle.trap_c.specs.Planes.{planes_in}
 use Rattle.trap_c.specs.Requests.{Asked}
-use Rattle.trap_c.specs.Stops.{line_of_stop, status_of_stop}
+use Rattle.trap_c.specs.Errors.{line_of_error, status_of_error}
 use Rattle.trap_c.specs.Windows.{call_window}
 use Rattle.trap_report.specs.Report.{sided_report_of}
 
@@ -48,7 +48,7 @@ WorksWindow most layout place before made (Ok work) =
     × LiesOn page (core_of place)
     × IsPlaced layout place
     × AreSides layout
-WorksWindow most layout place before made (Err stop) = (stop ≡ Page Memory) ⊎ (made ≡ Err stop)
+WorksWindow most layout place before made (Err error) = (error ≡ Page Memory) ⊎ (made ≡ Err error)
 
 -- A sheet of a job, with the sides that the place tells, that shows these samples in the window.
 pub record IsSheetOf (job : Job) (asked : Asked) (place : Place) (samples : List ℕ)
@@ -100,7 +100,7 @@ pub record HasTrapped (most : ℕ) (asked : Asked) (place : Place) (before after
       → IsBeside k (core_run asked.layout (core_of place) c y) place.core_width)
       → slice_index after k ≡ slice_index before k
   -- the text is the core's part of the report
-  pub told : Tells (core_report place page) text text' len
+  pub reported : Tells (core_report place page) text text' len
   -- and whatever sheet of the job it is that shows these samples there, all that is so on it
   pub sheets : (job : Job) (sheet : PageParts) → job_of asked.job ≡ Ok job
       → IsSheetOf job asked place before sheet
@@ -114,11 +114,11 @@ SucceedsWindow most asked place before after text text' len =
 -- that the arguments call for, or of memory that was refused.
 abbrev pub RefusesWindow : ℕ → Asked → Place → List ℕ → List ℕ → List ℕ → List ℕ → ℕ → ℕ → Type 0
 RefusesWindow most asked place before after text text' len status =
-    (stop : CallError)
-    × (status ≡ status_of_stop stop)
+    (error : CallError)
+    × (status ≡ status_of_error error)
     × (after ≡ before)
-    × Tells (line_of_stop stop) text text' len
-    × ((stop ≡ Page Memory) ⊎ (call_window most asked place before ≡ Err stop))
+    × Tells (line_of_error error) text text' len
+    × ((error ≡ Page Memory) ⊎ (call_window most asked place before ≡ Err error))
 
 -- What a window's call does to the samples, which hold numbers up to `most`, to the text and to its
 -- length, by its status.
@@ -128,22 +128,22 @@ pub record TrapsWindow (most : ℕ) (asked : Asked) (place : Place)
   pub refused : status ≢ done → RefusesWindow most asked place before after text text' len status
 
 -- why a job is not read
-abbrev pub stop_of_job : JobRefusal → CallError
-stop_of_job (Fault fault) = Page (JobFaulty fault)
-stop_of_job OutOfMemory = Page Memory
+abbrev pub error_of_job : JobError → CallError
+error_of_job (Fault fault) = Page (JobFaulty fault)
+error_of_job OutOfMemory = Page Memory
 
 -- the halo of a job that was read; or why it is not answered, which may be that memory was refused
 abbrev pub HaloIs : List ℕ → ℕ → Type 0
 HaloIs bytes halo = (job : Job) × (job_of bytes ≡ Ok job) × (halo ≡ job_halo job)
 
 abbrev pub HaloRefused : List ℕ → ℕ → CallError → Type 0
-HaloRefused bytes status stop =
-    (status ≡ status_of_stop stop) × ((stop ≡ Page Memory)
-    ⊎ ((fault : JobFault) × (job_of bytes ≡ Err fault) × (stop ≡ Page (JobFaulty fault))))
+HaloRefused bytes status error =
+    (status ≡ status_of_error error) × ((error ≡ Page Memory)
+    ⊎ ((fault : JobFault) × (job_of bytes ≡ Err fault) × (error ≡ Page (JobFaulty fault))))
 
 -- What the call does that tells the halo.
 pub record TellsHalo (bytes : List ℕ) (halo halo' : ℕ) (text text' : List ℕ) (len status : ℕ)
     : Type 0 where
   pub success : status ≡ done → HaloIs bytes halo' × Tells [] text text' len
-  pub refused : status ≢ done → (halo' ≡ halo) × ((stop : CallError)
-      × HaloRefused bytes status stop × Tells (line_of_stop stop) text text' len)
+  pub refused : status ≢ done → (halo' ≡ halo) × ((error : CallError)
+      × HaloRefused bytes status error × Tells (line_of_error error) text text' len)

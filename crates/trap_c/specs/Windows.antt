@@ -11,17 +11,17 @@ use Rattle.page_model.specs.declared.parts.Vertex.{Vertex}
 use Rattle.page_model.specs.declared.parts.Zone.{Zone}
 use Rattle.page_model.specs.Limits.{most_coordinate}
 use Rattle.ps_tokens.specs.declared.faults.JobFault.{JobFault}
-use Rattle.refusals.specs.declared.refusal.Refusal.TheVariants.{Job as JobRefusal, Memory}
+use Rattle.common_errors.specs.declared.common.CommonError.TheVariants.{Job as JobError, Memory}
 use Rattle.sheet_geometry.specs.Windows.{moved_zone, points_of}
 use Rattle.trap_c.specs.declared.layout.Layout.{Layout}
 use Rattle.trap_c.specs.declared.place.Place.{Place}
-use Rattle.trap_c.specs.declared.stop.CallFault.{CallFault}
-use Rattle.trap_c.specs.declared.stop.CallFault.TheVariants.{Place as PlaceFault}
-use Rattle.trap_c.specs.declared.stop.CallError.{CallError}
-use Rattle.trap_c.specs.declared.stop.CallError.TheVariants.{Call, Far, Page}
+use Rattle.trap_c.specs.declared.error.CallFault.{CallFault}
+use Rattle.trap_c.specs.declared.error.CallFault.TheVariants.{Place as PlaceFault}
+use Rattle.trap_c.specs.declared.error.CallError.{CallError}
+use Rattle.trap_c.specs.declared.error.CallError.TheVariants.{Call, Far, Page}
 use Rattle.trap_c.specs.Fit.{call_fault}
 use Rattle.trap_c.specs.Names.{names_in}
-use Rattle.trap_c.specs.Pages.{page_with, stop_or}
+use Rattle.trap_c.specs.Pages.{page_with, error_or}
 use Rattle.trap_c.specs.Places.{is_place, rows_after, suits}
 use Rattle.trap_c.specs.Planes.{planes_in}
 use Rattle.trap_c.specs.Requests.{Asked}
@@ -53,7 +53,7 @@ placed right made = if right then made else Err (Call PlaceFault)
 -- the window of a job whose paths are moved
 abbrev pub near_window : Job → List (List ℕ) → List Plane → Result PageParts CallError
 near_window job names planes =
-    unless_far (first_far job.zones) (stop_or (page_with job names planes))
+    unless_far (first_far job.zones) (error_or (page_with job names planes))
 
 -- the window of a job: its place is judged by the job, then its zones, its tints, and what they
 -- make
@@ -66,7 +66,7 @@ window_with layout place job names planes =
 abbrev pub window_by : Layout → Place → Result Job JobFault → List (List ℕ) → List Plane
     → Result PageParts CallError
 window_by layout place (Ok job) names planes = window_with layout place job names planes
-window_by layout place (Err fault) names planes = Err (Page (JobRefusal fault))
+window_by layout place (Err fault) names planes = Err (Page (JobError fault))
 
 -- where the arguments have no fault but that of the place
 abbrev pub made_unless : Option CallFault → Result PageParts CallError → Result PageParts CallError
@@ -90,7 +90,7 @@ call_window most asked place samples =
 -- A result of what is asked for, or that memory was refused.
 abbrev pub GivesWindow : Result PageParts CallError → Result PageParts CallError → Type 0
 GivesWindow made (Ok page) = made ≡ Ok page
-GivesWindow made (Err stop) = (stop ≡ Page Memory) ⊎ (made ≡ Err stop)
+GivesWindow made (Err error) = (error ≡ Page Memory) ⊎ (made ≡ Err error)
 
 -- A job in range, but for how far its vertices are from the origin.
 pub record IsMovedJob (job : Job) : Type 0 where

@@ -1,28 +1,28 @@
 ghost use Rattle.std.specs.Prelude.{◌≡◌, ◌≢◌};
-ghost use Rattle.refusals.specs.Statuses.{done as done_status};
+ghost use Rattle.common_errors.specs.Statuses.{done as done_status};
 ghost use Rattle.trap_c.specs.Calls.{Tells, Traps};
 ghost use Rattle.trap_c.specs.Requests.{asked};
-ghost use Rattle.trap_c.specs.WindowCalls.{TellsHalo, TrapsWindow, stop_of_job};
-ghost use Rattle.trap_c.specs.Stops.{line_of_stop, status_of_stop};
+ghost use Rattle.trap_c.specs.WindowCalls.{TellsHalo, TrapsWindow, error_of_job};
+ghost use Rattle.trap_c.specs.Errors.{line_of_error, status_of_error};
 ghost use Rattle.page_model.specs.Limits.{most_maxval};
 
 use crate::cores::{put_byte_cores, put_word_cores};
+use crate::error::{CallError, line_of, status_of};
 use crate::halo::halo_of;
 use crate::place::{Place, core_of};
 use crate::planes::{put_bytes, put_words};
 use crate::request::Request;
 use crate::source::Source;
-use crate::stop::{CallError, line_of, status_of};
 use crate::work::{carry_out, carry_out_window};
+use common_errors::common::CommonError;
+use common_errors::statuses::DONE;
 use job_reader::reader::read_job;
 use page_model::bounds::MOST_MAXVAL;
-use ps_tokens::faults::JobRefusal;
-use refusals::refusal::Refusal;
-use refusals::statuses::DONE;
+use ps_tokens::faults::JobError;
 use sheet_geometry::laws::{tile_law, window_law};
 use std::alloc::Global;
 
-/// Carries out a call over samples of two bytes, writes the report or the line of the refusal to the text, and returns
+/// Carries out a call over samples of two bytes, writes the report or the line of the error to the text, and returns
 /// the status.
 pub fn answer_words(
     alloc: Global,
@@ -40,7 +40,7 @@ pub fn answer_words(
             put_text(done.report.as_slice(), text, text_len);
             DONE
         }
-        Err(stop) => refuse(&stop, text, text_len),
+        Err(error) => refuse(&error, text, text_len),
     }
 }
 
@@ -61,12 +61,12 @@ pub fn answer_bytes(
             put_text(done.report.as_slice(), text, text_len);
             DONE
         }
-        Err(stop) => refuse(&stop, text, text_len),
+        Err(error) => refuse(&error, text, text_len),
     }
 }
 
 /// Carries out a window's call over samples of two bytes, writes the core's part of the report or the line of the
-/// refusal to the text, and returns the status.
+/// error to the text, and returns the status.
 pub fn answer_window_words(
     alloc: Global,
     request: &Request<'_>,
@@ -86,7 +86,7 @@ pub fn answer_window_words(
             put_text(done.report.as_slice(), text, text_len);
             DONE
         }
-        Err(stop) => refuse(&stop, text, text_len),
+        Err(error) => refuse(&error, text, text_len),
     }
 }
 
@@ -110,7 +110,7 @@ pub fn answer_window_bytes(
             put_text(done.report.as_slice(), text, text_len);
             DONE
         }
-        Err(stop) => refuse(&stop, text, text_len),
+        Err(error) => refuse(&error, text, text_len),
     }
 }
 
@@ -130,26 +130,26 @@ pub fn answer_halo(
             put_text(b"", text, text_len);
             DONE
         }
-        Err(refusal) => refuse(&stop_of(refusal), text, text_len),
+        Err(common_error) => refuse(&error_of(common_error), text, text_len),
     }
 }
 
-fn stop_of(refusal: JobRefusal) -> CallError
-    ensures { result ≡ stop_of_job refusal }
+fn error_of(common_error: JobError) -> CallError
+    ensures { result ≡ error_of_job common_error }
 {
-    match refusal {
-        JobRefusal::Fault(fault) => CallError::Page(Refusal::Job(fault)),
-        JobRefusal::OutOfMemory => CallError::Page(Refusal::Memory),
+    match common_error {
+        JobError::Fault(fault) => CallError::Page(CommonError::Job(fault)),
+        JobError::OutOfMemory => CallError::Page(CommonError::Memory),
     }
 }
 
-fn refuse(stop: &CallError, text: &mut [u8], text_len: &mut usize) -> u8
-    ensures text { Tells (line_of_stop stop.now) text.old text.new text_len.new }
-    ensures status { result ≡ status_of_stop stop.now }
+fn refuse(error: &CallError, text: &mut [u8], text_len: &mut usize) -> u8
+    ensures text { Tells (line_of_error error.now) text.old text.new text_len.new }
+    ensures status { result ≡ status_of_error error.now }
     ensures refused { result ≢ done_status }
 {
-    put_text(line_of(stop).as_slice(), text, text_len);
-    status_of(stop)
+    put_text(line_of(error).as_slice(), text, text_len);
+    status_of(error)
 }
 
 fn put_text(bytes: &[u8], text: &mut [u8], text_len: &mut usize)

@@ -4,14 +4,14 @@ ghost use Rattle.lists.specs.Words.{or_else};
 ghost use Rattle.page_model.specs.Limits.{most_maxval, most_plates, most_side};
 ghost use Rattle.trap_c.specs.Fit.{AreFit, ArePlanesFit, AreSides, IsCall, are_sides as sides_spec, is_side as side_spec, is_maxval as maxval_spec, call_fault as call_fault_of, above_at, first_above as first_above_in};
 
+use crate::error::CallFault;
 use crate::layout::Layout;
 use crate::names::are_names;
-use crate::stop::CallFault;
+use common_errors::common::CommonError;
 use lists::names::Name;
 use page_model::bounds::{MOST_SAMPLES, MOST_SIDE};
 use page_model::parts::{Plane, PlaneList};
 use pgm_plates::plate::PlateFault;
-use refusals::refusal::Refusal;
 
 /// The first fault of a call's arguments. `most` is the greatest number that a sample's type holds, and `count` the
 /// number of samples.
@@ -71,9 +71,9 @@ fn is_maxval(most: u32, maxval: u32) -> bool
     1 <= maxval && maxval <= most
 }
 
-/// The first tint, over all planes, that is above the maxval, as a refusal. The planes are searched only if `are_fit`
+/// The first tint, over all planes, that is above the maxval, as a error. The planes are searched only if `are_fit`
 /// is false.
-pub fn first_above(planes: &PlaneList, are_fit: bool) -> Option<Refusal>
+pub fn first_above(planes: &PlaneList, are_fit: bool) -> Option<CommonError>
     requires few { length planes.now ≤ most_plates }
     requires fit { IsTrue are_fit → ArePlanesFit planes.now }
     ensures { result ≡ first_above_in planes.now }
@@ -81,7 +81,7 @@ pub fn first_above(planes: &PlaneList, are_fit: bool) -> Option<Refusal>
     if are_fit { None } else { look_above(planes) }
 }
 
-fn look_above(planes: &PlaneList) -> Option<Refusal>
+fn look_above(planes: &PlaneList) -> Option<CommonError>
     requires { length planes.now ≤ most_plates }
     ensures { result ≡ first_above_in planes.now }
 {
@@ -94,20 +94,20 @@ fn look_above(planes: &PlaneList) -> Option<Refusal>
     found
 }
 
-fn earlier(found: Option<Refusal>, later: Option<Refusal>) -> Option<Refusal>
+fn earlier(found: Option<CommonError>, later: Option<CommonError>) -> Option<CommonError>
     ensures { result ≡ or_else found later }
 {
     match found {
-        Some(refusal) => Some(refusal),
+        Some(common_error) => Some(common_error),
         None => later,
     }
 }
 
-fn above(plane: &Plane, c: u32) -> Option<Refusal>
+fn above(plane: &Plane, c: u32) -> Option<CommonError>
     ensures { result ≡ above_at c (position (λ t. nat_lt plane.now.maxval t) plane.now.tints) }
 {
     match place_above(plane.tints.as_slice(), plane.maxval) {
-        Some(at) => Some(Refusal::Plate(c, PlateFault::SampleAboveMaxval(at as u64))),
+        Some(at) => Some(CommonError::Plate(c, PlateFault::SampleAboveMaxval(at as u64))),
         None => None,
     }
 }

@@ -4,6 +4,7 @@
 
 mod answer;
 mod cores;
+mod error;
 mod fit;
 mod halo;
 mod layout;
@@ -14,7 +15,6 @@ mod planes;
 mod request;
 mod shift;
 mod source;
-mod stop;
 mod tally;
 mod window;
 mod work;
@@ -37,9 +37,9 @@ use std::alloc::Global;
 /// and one of `maxval` is full ink. From the start of a row to that of the next there are `step` samples; those after a
 /// row's end are left unchanged. The rule is that of docs/JOBS.md and of page_model's definitions.
 ///
-/// The names of the plates' colorants are separated by LF. The report, or the line of the refusal, is written to
-/// `text`, as much of it as fits, and its whole length to `text_len`. The status is 0, or that of the refusal, and a
-/// refusal leaves the planes unchanged: 2 for a fault of the call, 3 of the job, 4 of the page, and 7 if there is too
+/// The names of the plates' colorants are separated by LF. The report, or the line of the error, is written to
+/// `text`, as much of it as fits, and its whole length to `text_len`. The status is 0, or that of the error, and a
+/// error leaves the planes unchanged: 2 for a fault of the call, 3 of the job, 4 of the page, and 7 if there is too
 /// little memory.
 #[unsafe(no_mangle)]
 pub extern "C" fn trap_planes16(
@@ -96,7 +96,7 @@ pub extern "C" fn trap_planes8(
 
 /// Writes the halo of a job to `halo`: how many rows and columns a window needs round its core, on each side that is no
 /// border of the sheet. It is half the reach of the job's zones, rounded up to whole samples, and at least one. The
-/// text is empty. The status is 0, or that of the refusal, and a refusal leaves `halo` unchanged: 3 for a fault of the
+/// text is empty. The status is 0, or that of the error, and a error leaves `halo` unchanged: 3 for a fault of the
 /// job, and 7 if there is too little memory.
 #[unsafe(no_mangle)]
 pub extern "C" fn trap_halo(
@@ -116,7 +116,7 @@ pub extern "C" fn trap_halo(
 /// `trap_planes16`, with the planes of the window; `place` says where it is on the sheet, and what its core is.
 ///
 /// The text is the core's part of the report: its header has the sheet's sides, and its counts over the cores of a tiling add
-/// up to the sheet's. The status and the line of a refusal are those of `trap_planes16`, with two more: 2 for a place that
+/// up to the sheet's. The status and the line of a error are those of `trap_planes16`, with two more: 2 for a place that
 /// does not fit, and 4 where a zone has a vertex that is more than a million points from the window's lower left corner.
 #[unsafe(no_mangle)]
 pub extern "C" fn trap_window16(

@@ -11,13 +11,13 @@ use crate::fit::first_above;
 use crate::layout::Layout;
 use crate::planes::{Copies, planes_of};
 use crate::source::Source;
+use common_errors::common::CommonError;
 use job_reader::job::Job;
 use job_reader::reader::read_job;
 use lists::names::{NameList, OutOfMemory};
 use page_files::assemble::assemble_planes;
 use page_model::page::Page;
-use ps_tokens::faults::JobRefusal;
-use refusals::refusal::Refusal;
+use ps_tokens::faults::JobError;
 use std::alloc::Global;
 
 /// Makes a page of a job's bytes and of the planes in the samples.
@@ -27,7 +27,7 @@ pub fn page_of(
     names: &NameList,
     source: &Source<'_>,
     layout: Layout,
-) -> Result<Page, Refusal>
+) -> Result<Page, CommonError>
     requires { IsCall names.now layout (length (numbers source.now)) }
     ensures gives { Gives (page_spec job.now names.now
         (planes_in layout (numbers source.now) (length names.now))) result }
@@ -35,8 +35,8 @@ pub fn page_of(
 {
     match read_job(alloc, job) {
         Ok(job) => page_of_job(alloc, job, names, source, layout),
-        Err(JobRefusal::Fault(fault)) => Err(Refusal::Job(fault)),
-        Err(JobRefusal::OutOfMemory) => Err(Refusal::Memory),
+        Err(JobError::Fault(fault)) => Err(CommonError::Job(fault)),
+        Err(JobError::OutOfMemory) => Err(CommonError::Memory),
     }
 }
 
@@ -47,7 +47,7 @@ pub fn page_of_job(
     names: &NameList,
     source: &Source<'_>,
     layout: Layout,
-) -> Result<Page, Refusal>
+) -> Result<Page, CommonError>
     requires call { IsCall names.now layout (length (numbers source.now)) }
     requires job { IsJob job }
     ensures gives { Gives (page_with_spec job names.now
@@ -56,7 +56,7 @@ pub fn page_of_job(
 {
     match planes_of(alloc, source, layout, names) {
         Ok(copies) => page_with(alloc, job, names, copies, layout),
-        Err(OutOfMemory) => Err(Refusal::Memory),
+        Err(OutOfMemory) => Err(CommonError::Memory),
     }
 }
 
@@ -66,7 +66,7 @@ fn page_with(
     names: &NameList,
     copies: Copies,
     layout: Layout,
-) -> Result<Page, Refusal>
+) -> Result<Page, CommonError>
     requires layout { IsLayout layout }
     requires some { 1 ≤ length names.now }
     requires few { length names.now ≤ most_plates }
@@ -79,7 +79,7 @@ fn page_with(
     ensures layout { IfOk result (Fills layout (length names.now)) }
 {
     match first_above(&copies.planes, copies.are_fit) {
-        Some(refusal) => Err(refusal),
+        Some(common_error) => Err(common_error),
         None => assemble_planes(alloc, job, copies.planes, names),
     }
 }

@@ -11,9 +11,9 @@ use crate::place::{Place, is_wide, rows_after};
 use job_reader::job::Job;
 use page_model::bounds::MOST_COORDINATE;
 use page_model::parts::{OutOfMemory, Vertex, Zone, ZoneList};
+use sheet_geometry::copies::zones_of;
 use sheet_geometry::corners::points;
 use std::alloc::Global;
-use sheet_geometry::copies::zones_of;
 
 /// Whether a job can be trapped in a window at that place: the halo is wide enough, and where the job has paths the window's
 /// lower left corner is at the step.

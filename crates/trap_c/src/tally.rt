@@ -13,10 +13,10 @@ use lists::memory::no_counts;
 use page_model::laws::trapped_planes_law;
 use page_model::page::Page;
 use page_model::parts::{Counts, OutOfMemory, PlaneList};
-use sheet_geometry::cuts::Cut;
-use std::alloc::Global;
 use sheet_engine::counts::SheetCounts;
 use sheet_engine::tile::trap_tile;
+use sheet_geometry::cuts::Cut;
+use std::alloc::Global;
 use trap_report::report::sided_report;
 
 fn none_of(alloc: Global, page: &Page) -> Result<SheetCounts, OutOfMemory>

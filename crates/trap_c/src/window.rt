@@ -8,18 +8,18 @@ ghost use Rattle.trap_c.specs.Planes.{planes_in};
 ghost use Rattle.trap_c.specs.Sources.{numbers};
 ghost use Rattle.trap_c.specs.Windows.{GivesWindow, IsMovedJob, near_window, window_by, window_with};
 
+use crate::error::{CallError, CallFault};
 use crate::layout::Layout;
 use crate::page::page_of_job;
 use crate::place::Place;
 use crate::shift::{first_far, moved_job, suits};
 use crate::source::Source;
-use crate::stop::{CallError, CallFault};
+use common_errors::common::CommonError;
 use job_reader::job::Job;
 use job_reader::reader::read_job;
 use lists::names::{NameList, OutOfMemory};
 use page_model::page::Page;
-use ps_tokens::faults::JobRefusal;
-use refusals::refusal::Refusal;
+use ps_tokens::faults::JobError;
 use std::alloc::Global;
 
 /// Makes the page of a window, of a job's bytes and of the planes in the samples.
@@ -39,8 +39,8 @@ pub fn window_of(
 {
     match read_job(alloc, job) {
         Ok(job) => window_of_job(alloc, job, names, source, layout, place),
-        Err(JobRefusal::Fault(fault)) => Err(CallError::Page(Refusal::Job(fault))),
-        Err(JobRefusal::OutOfMemory) => Err(CallError::Page(Refusal::Memory)),
+        Err(JobError::Fault(fault)) => Err(CallError::Page(CommonError::Job(fault))),
+        Err(JobError::OutOfMemory) => Err(CallError::Page(CommonError::Memory)),
     }
 }
 
@@ -64,7 +64,7 @@ fn window_of_job(
     }
     match moved_job(alloc, job, layout, place) {
         Ok(moved) => window_of_moved(alloc, moved, names, source, layout),
-        Err(OutOfMemory) => Err(CallError::Page(Refusal::Memory)),
+        Err(OutOfMemory) => Err(CallError::Page(CommonError::Memory)),
     }
 }
 
@@ -87,6 +87,6 @@ fn window_of_moved(
     }
     match page_of_job(alloc, job, names, source, layout) {
         Ok(page) => Ok(page),
-        Err(refusal) => Err(CallError::Page(refusal)),
+        Err(common_error) => Err(CallError::Page(common_error)),
     }
 }

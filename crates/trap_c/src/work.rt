@@ -11,10 +11,11 @@ ghost use Rattle.trap_c.specs.WindowCalls.{WorksWindow};
 ghost use Rattle.trap_c.specs.Windows.{call_window, named_window, window_by};
 ghost use Rattle.trap_c.specs.Places.{IsPlaced};
 ghost use Rattle.trap_c.specs.Requests.{asked};
-ghost use Rattle.trap_c.specs.Pages.{call_page, named_page, page_of as page_spec, stop_or};
+ghost use Rattle.trap_c.specs.Pages.{call_page, named_page, page_of as page_spec, error_or};
 ghost use Rattle.trap_c.specs.Planes.{planes_in};
 ghost use Rattle.trap_c.specs.Sources.{numbers};
 
+use crate::error::{CallError, CallFault};
 use crate::fit::call_fault;
 use crate::layout::Layout;
 use crate::names::names_of;
@@ -22,15 +23,14 @@ use crate::page::page_of;
 use crate::place::{Place, is_place};
 use crate::request::Request;
 use crate::source::Source;
-use crate::stop::{CallError, CallFault};
 use crate::tally::trapped_window;
 use crate::window::window_of;
+use common_errors::common::CommonError;
 use lists::names::{Name, NameList, OutOfMemory};
 use page_model::laws::trapped_planes_law;
 use page_model::page::Page;
 use page_model::parts::PlaneList;
 use page_tally::Trapped;
-use refusals::refusal::Refusal;
 use std::alloc::Global;
 use strip_engine::trap_alone;
 use trap_report::report::report;
@@ -56,7 +56,7 @@ pub fn carry_out(
 {
     match names_of(alloc, request.names) {
         Ok(names) => carry_out_named(alloc, most, request, &names, source),
-        Err(OutOfMemory) => Err(CallError::Page(Refusal::Memory)),
+        Err(OutOfMemory) => Err(CallError::Page(CommonError::Memory)),
     }
 }
 
@@ -89,14 +89,14 @@ fn trap_source(
     requires { IsCall names.now layout (length (numbers source.now)) }
     ensures { let planes = planes_in layout (numbers source.now) (length names.now) in
         Works layout.maxval layout (numbers source.now)
-        (stop_or (page_spec job.now names.now planes)) result }
+        (error_or (page_spec job.now names.now planes)) result }
 {
     match page_of(alloc, job, names, source, layout) {
         Ok(page) => match trap_whole(alloc, &page) {
             Ok(done) => Ok(done),
-            Err(OutOfMemory) => Err(CallError::Page(Refusal::Memory)),
+            Err(OutOfMemory) => Err(CallError::Page(CommonError::Memory)),
         },
-        Err(refusal) => Err(CallError::Page(refusal)),
+        Err(common_error) => Err(CallError::Page(common_error)),
     }
 }
 
@@ -126,7 +126,7 @@ pub fn carry_out_window(
 {
     match names_of(alloc, request.names) {
         Ok(names) => carry_out_named_window(alloc, most, request, place, &names, source),
-        Err(OutOfMemory) => Err(CallError::Page(Refusal::Memory)),
+        Err(OutOfMemory) => Err(CallError::Page(CommonError::Memory)),
     }
 }
 
@@ -171,8 +171,8 @@ fn trap_window(
     match window_of(alloc, job, names, source, layout, place) {
         Ok(page) => match trapped_window(alloc, &page, place) {
             Ok(done) => Ok(done),
-            Err(OutOfMemory) => Err(CallError::Page(Refusal::Memory)),
+            Err(OutOfMemory) => Err(CallError::Page(CommonError::Memory)),
         },
-        Err(stop) => Err(stop),
+        Err(error) => Err(error),
     }
 }

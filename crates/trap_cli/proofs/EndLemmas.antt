@@ -11,8 +11,8 @@ use Rattle.page_files.specs.Inputs.{Sources, read_files}
 use Rattle.page_files.specs.Steps.{PassesNoFault}
 use Rattle.page_files.proofs.GatherLemmas.{refused_count}
 use Rattle.page_files.specs.Writing.{FailsOnce}
-use Rattle.refusals.specs.declared.refusal.Refusal.{Refusal}
-use Rattle.refusals.specs.declared.refusal.Refusal.TheVariants.{Usage, Job, NoDetails, Plate, Page, Read, Write, Memory}
+use Rattle.common_errors.specs.declared.common.CommonError.{CommonError}
+use Rattle.common_errors.specs.declared.common.CommonError.TheVariants.{Usage, Job, NoDetails, Plate, Page, Read, Write, Memory}
 use Rattle.page_output.specs.Output.{AnswersPut, PutsOut}
 use Rattle.trap_cli.specs.Endings.{AnswersCommand, CarriesOut}
 use Rattle.page_files.specs.Verdicts.{Targets, written_names}
@@ -20,7 +20,7 @@ use Rattle.page_files.specs.Verdicts.{Targets, written_names}
 unchanged : (a : RackState) → KeepsRack a a
 unchanged a = record { tells = refl; faults = omega arith }
 
-answer_refused : (band : ℕ) (source : Sources) (target : Targets) (a b : TrayState) (r : RackState) (refusal : Refusal) → AnswersPage source a b (Err refusal) → AnswersCommand band source target a b r r (Err refusal)
+answer_refused : (band : ℕ) (source : Sources) (target : Targets) (a b : TrayState) (r : RackState) (error : CommonError) → AnswersPage source a b (Err error) → AnswersCommand band source target a b r r (Err error)
 answer_refused band source target a b r (Job fault) answer = (answer, refl)
 answer_refused band source target a b r (NoDetails plate) answer = (answer, refl)
 answer_refused band source target a b r (Plate plate fault) answer = (answer, refl)
@@ -30,7 +30,7 @@ answer_refused band source target a b r Memory answer = (answer, refl)
 answer_refused band source target a b r Usage answer = absurd answer
 answer_refused band source target a b r (Write file) answer = absurd answer
 
-once_refused : (source : Sources) (a b : TrayState) (r : RackState) (refusal : Refusal) → AnswersPage source a b (Err refusal) → FailsOnce {T = Receipt} r r (Err refusal)
+once_refused : (source : Sources) (a b : TrayState) (r : RackState) (error : CommonError) → AnswersPage source a b (Err error) → FailsOnce {T = Receipt} r r (Err error)
 once_refused source a b r (Job fault) answer = tt
 once_refused source a b r (NoDetails plate) answer = tt
 once_refused source a b r (Plate plate fault) answer = tt
@@ -41,17 +41,17 @@ once_refused source a b r Usage answer = tt
 once_refused source a b r (Write file) answer = absurd answer
 
 -- The page could not be read.
-not_read : (band : ℕ) (source : Sources) (target : Targets) (a b : TrayState) (r : RackState) (refusal : Refusal) → Gathers source a b (Err refusal) → CarriesOut band source target a b r r (Err refusal)
-not_read band source target a b r refusal reads = record {
+not_read : (band : ℕ) (source : Sources) (target : Targets) (a b : TrayState) (r : RackState) (error : CommonError) → Gathers source a b (Err error) → CarriesOut band source target a b r r (Err error)
+not_read band source target a b r error reads = record {
   tray_keeps = reads.keeps;
   in_hand = inr reads.in_hand;
-  count = refused_count PageParts Receipt a b refusal reads.count;
+  count = refused_count PageParts Receipt a b error reads.count;
   asked = reads.asked;
   rack_keeps = unchanged r;
-  told = λ tells. refl;
+  reported = λ tells. refl;
   created = asks_none_of r.asked (written_names target);
-  answer = answer_refused band source target a b r refusal reads.answer;
-  once = once_refused source a b r refusal reads.answer;
+  answer = answer_refused band source target a b r error reads.answer;
+  once = once_refused source a b r error reads.answer;
 }
 
 -- There was no memory to begin with.
@@ -62,24 +62,24 @@ not_begun band source target a r = record {
   count = refl;
   asked = asks_none_of a.asked (read_files source);
   rack_keeps = unchanged r;
-  told = λ tells. refl;
+  reported = λ tells. refl;
   created = asks_none_of r.asked (written_names target);
   answer = (tt, refl);
   once = tt;
 }
 
 -- The page was not read, for one reason or the other.
-pub refused_first : (band : ℕ) (source : Sources) (target : Targets) (a b : TrayState) (r : RackState) (refusal : Refusal) → ReadsPage source a b (Err refusal) → CarriesOut band source target a b r r (Err refusal)
-refused_first band source target a b r refusal (inl none) =
-    let same : refusal ≡ Memory = (let e : ◌≡◌ {A = Result PageParts Refusal} (Err refusal) (Err Memory) = none.1 in cc) in
-    subst (λ (t : TrayState). CarriesOut band source target a t r r (Err refusal)) (sym none.0) (subst (λ (e : Refusal). CarriesOut band source target a a r r (Err e)) (sym same) (not_begun band source target a r))
-refused_first band source target a b r refusal (inr reads) = not_read band source target a b r refusal reads
+pub refused_first : (band : ℕ) (source : Sources) (target : Targets) (a b : TrayState) (r : RackState) (error : CommonError) → ReadsPage source a b (Err error) → CarriesOut band source target a b r r (Err error)
+refused_first band source target a b r error (inl none) =
+    let same : error ≡ Memory = (let e : ◌≡◌ {A = Result PageParts CommonError} (Err error) (Err Memory) = none.1 in cc) in
+    subst (λ (t : TrayState). CarriesOut band source target a t r r (Err error)) (sym none.0) (subst (λ (e : CommonError). CarriesOut band source target a a r r (Err e)) (sym same) (not_begun band source target a r))
+refused_first band source target a b r error (inr reads) = not_read band source target a b r error reads
 
 module _ (band : ℕ) (source : Sources) (target : Targets) (page : PageParts) (a b : TrayState) (r r' : RackState) (reads : Gathers source a b (Ok page)) where
   made : IsPage page → IsMade source a page
   made valid = (valid, reads.answer.2)
 
-  answer_put : (result : Result Receipt Refusal) → IsPage page → AnswersPut band target page r r' result → AnswersCommand band source target a b r r' result
+  answer_put : (result : Result Receipt CommonError) → IsPage page → AnswersPut band target page r r' result → AnswersCommand band source target a b r r' result
   answer_put (Ok receipt) valid answer = (page, made valid, answer.0, reads.answer.1, answer.1, answer.2, answer.3)
   answer_put (Err (Write file)) valid answer = (page, made valid, answer)
   answer_put (Err Memory) valid answer = (tt, answer)
@@ -90,7 +90,7 @@ module _ (band : ℕ) (source : Sources) (target : Targets) (page : PageParts) (
   answer_put (Err (Page fault)) valid answer = absurd answer
   answer_put (Err (Read file)) valid answer = absurd answer
 
-  put_count : (result : Result Receipt Refusal) → AnswersPut band target page r r' result → PassesNoFault a b result
+  put_count : (result : Result Receipt CommonError) → AnswersPut band target page r r' result → PassesNoFault a b result
   put_count (Ok x) answer = reads.count
   put_count (Err (Write file)) answer = reads.count
   put_count (Err Memory) answer = reads.count
@@ -102,14 +102,14 @@ module _ (band : ℕ) (source : Sources) (target : Targets) (page : PageParts) (
   put_count (Err (Read file)) answer = absurd answer
 
   -- A page that was read is put out.
-  pub read_and_put : (result : Result Receipt Refusal) → PutsOut band target page r r' result → CarriesOut band source target a b r r' result
+  pub read_and_put : (result : Result Receipt CommonError) → PutsOut band target page r r' result → CarriesOut band source target a b r r' result
   read_and_put result put = record {
     tray_keeps = reads.keeps;
     in_hand = inr reads.in_hand;
     count = put_count result put.answer;
     asked = reads.asked;
     rack_keeps = put.keeps;
-    told = put.told;
+    reported = put.reported;
     created = put.asked;
     answer = answer_put result put.valid put.answer;
     once = put.once;

@@ -2,7 +2,7 @@
 use Rattle.std.proofs.Common.{◌≡◌, ℕ, List, length, map, Bor, sym, ap, ◌∙◌}
 use Rattle.std.proofs.lemmas.List.{length-map}
 use Rattle.plain_words.specs.Parts.{PlateNames, parts_of}
-use Rattle.trap_cli.specs.Held.{plates_in}
+use Rattle.trap_cli.specs.Stored.{plates_in}
 use Rattle.plain_words.specs.Plates.{outputs_of}
 
 -- There are as many files as words that name them.

@@ -36,7 +36,7 @@ fault_stands : (k : ErrorKind) (ks : Kinds) → (k ≡ OutOfMemory → ⊥) → 
 fault_stands k ks other (inl memory) = absurd (other memory)
 fault_stands k ks other (inr among) = has_fault k ks among
 
--- a refusal for another cause than memory is one of words that are not taken
+-- a error for another cause than memory is one of words that are not taken
 pub not_taken : (app : App) (words : List Text) (k : ErrorKind) → app ≡ page_app → (k ≡ OutOfMemory → ⊥) → (is_simple_and_free app ≡ true → (k ≡ OutOfMemory) ⊎ IsAmong k (fault_of app words)) → is_taken words ≡ false
 unfolding is_taken
 not_taken app words k same other kinds =
@@ -47,9 +47,9 @@ not_taken app words k same other kinds =
 pub nothing_taken : {E : Type 0} (r : Result (Option ArgMatches) E) (app : App) (words : List Text) (k kind : ErrorKind) → app ≡ page_app → k ≡ kind
     → (is_simple_and_free app ≡ true → (kind ≡ OutOfMemory) ⊎ IsAmong kind (fault_of app words)) → IfOk r (λ o. is_some o ≡ false) → OnOk r (k ≢ OutOfMemory)
     → IfOk r (λ o. is_some o ≡ is_taken words)
-nothing_taken (Err e) app words k kind same k_is kinds none cause = tt
-nothing_taken (Ok o) app words k kind same k_is kinds none cause =
-    none ∙ sym (not_taken app words kind same (λ e. cause (k_is ∙ e)) kinds)
+nothing_taken (Err e) app words k kind same k_is kinds none reason = tt
+nothing_taken (Ok o) app words k kind same k_is kinds none reason =
+    none ∙ sym (not_taken app words kind same (λ e. reason (k_is ∙ e)) kinds)
 
 pub nothing_found : {E : Type 0} (r : Result (Option ArgMatches) E) (P : ArgMatches → Type 0) → IfOk r (λ o. is_some o ≡ false) → IfOk r (λ o. IfSome o P)
 nothing_found (Err e) P none = tt

@@ -3,7 +3,7 @@
 use Rattle.std.specs.Prelude.{◌≡◌, ◌≢◌, ◌⊎◌, ◌↔◌, ℕ, ◌≤◌, IsTrue, IsFalse, true, List, ◌++◌, length}
 use Rattle.std.specs.Prelude.{take, Option, Some, None, Ok, Err}
 use Rattle.band_claims.specs.Receipt.{Receipt}
-use Rattle.outside.specs.Causes.{Rose, RoseOnce, Asks, AsksPrefix}
+use Rattle.outside.specs.ErrorCases.{Rose, RoseOnce, Asks, AsksPrefix}
 use Rattle.outside.specs.Tray.{TrayState}
 use Rattle.outside.specs.Rack.{RackState}
 use Rattle.job_reader.specs.declared.job.Job.{Job}
@@ -16,12 +16,12 @@ use Rattle.page_files.specs.Steps.{PassesNoFault}
 use Rattle.pgm_plates.specs.declared.plate.Plate.{Plate as PlateRead}
 use Rattle.page_files.specs.Files.{Written, put_all}
 use Rattle.page_files.specs.Writing.{Breaks, FinishesAll}
-use Rattle.refusals.specs.declared.refusal.Refusal.{Refusal}
-use Rattle.refusals.specs.declared.refusal.Refusal.TheVariants as Refusals
-use Rattle.refusals.specs.Refusals.{line_of, status_of}
-use Rattle.refusals.specs.Statuses.{done, usage, job_refused, page_refused, not_read}
-use Rattle.refusals.specs.Statuses.{not_written, out_of_memory}
-use Rattle.refusals.specs.Telling.{TellsText, TellsAfterFault}
+use Rattle.common_errors.specs.declared.common.CommonError.{CommonError}
+use Rattle.common_errors.specs.declared.common.CommonError.TheVariants as CommonErrors
+use Rattle.common_errors.specs.CommonErrors.{line_of, status_of}
+use Rattle.common_errors.specs.Statuses.{done, usage, job_refused, page_refused, not_read}
+use Rattle.common_errors.specs.Statuses.{not_written, out_of_memory}
+use Rattle.common_errors.specs.Telling.{TellsText, TellsAfterFault}
 use Rattle.trap_cli.specs.Words.{PageWords, SampleWords, begins_with_page, command_of, Page}
 use Rattle.trap_cli.specs.Words.{Sample}
 use Rattle.trap_cli.specs.Commands.{sample_band, sources_of, targets_of}
@@ -51,7 +51,7 @@ pub record Success (words : List (List ℕ)) (tray tray' : TrayState) (rack rack
       × (IsTrue rack.tells → rack'.file ≡ put_all (outcome (targets_of page) made) rack.file)
       × HasReceipt made page.band receipt
   pub silent : (page : PageWords) → MeanPage words page → status ≡ done → IsTrue rack.tells
-      → rack'.told ≡ rack.told
+      → rack'.reported ≡ rack.reported
   pub finished : (page : PageWords) → MeanPage words page → status ≡ done
       → FinishesAll (written_names (targets_of page)) rack rack'
   pub shut : (page : PageWords) → MeanPage words page → status ≡ done → IsFalse rack'.is_open
@@ -73,28 +73,28 @@ pub record Usage (words : List (List ℕ)) (tray tray' : TrayState) (rack rack' 
   pub no_begin : command_of words ≡ None → tray'.asked ≡ tray.asked
   pub no_create : command_of words ≡ None → rack'.asked ≡ rack.asked
 
--- What comes where the files are refused: the refusal's status, the verdict, the names that were
+-- What comes where the files are refused: the error's status, the verdict, the names that were
 -- handed to `begin`, none after that of the file that is refused, the line, and that no fault
 -- of the tray was passed over.
 pub record RefusesFiles (page : PageWords) (tray tray' : TrayState) (rack rack' : RackState)
-    (status : ℕ) (refusal : Refusal) : Type 0 where
-  pub status_is : status ≡ status_of refusal
+    (status : ℕ) (error : CommonError) : Type 0 where
+  pub status_is : status ≡ status_of error
   pub verdict : IsTrue tray.tells
-      → IsVerdict one_page tray.file (sources_of page) (targets_of page) (Refused refusal)
-  pub begun : Asks tray.asked tray'.asked (files_to (sources_of page) refusal)
-  pub count : PassesNoFault {T = Unit {0}} tray tray' (Err refusal)
-  pub line : TellsText (line_of refusal) rack rack'
+      → IsVerdict one_page tray.file (sources_of page) (targets_of page) (Refused error)
+  pub begun : Asks tray.asked tray'.asked (files_to (sources_of page) error)
+  pub count : PassesNoFault {T = Unit {0}} tray tray' (Err error)
+  pub line : TellsText (line_of error) rack rack'
 
--- Status 3 and 4 of a page come only where the verdict is a refusal of that status; and where it
+-- Status 3 and 4 of a page come only where the verdict is a error of that status; and where it
 -- is one, and the tray's count did not rise, its status comes, or out of memory.
 pub record RefusedInput (words : List (List ℕ)) (tray tray' : TrayState) (rack rack' : RackState)
     (status : ℕ) : Type 0 where
   pub only : (page : PageWords) → MeanPage words page
       → (status ≡ job_refused) ⊎ (status ≡ page_refused)
-      → (refusal : Refusal) × RefusesFiles page tray tray' rack rack' status refusal
-  pub always : (page : PageWords) (refusal : Refusal) → MeanPage words page → IsTrue tray.tells
-      → IsVerdict one_page tray.file (sources_of page) (targets_of page) (Refused refusal)
-      → ¬ Rose tray.faults tray'.faults → (status ≡ status_of refusal) ⊎ (status ≡ out_of_memory)
+      → (error : CommonError) × RefusesFiles page tray tray' rack rack' status error
+  pub always : (page : PageWords) (error : CommonError) → MeanPage words page → IsTrue tray.tells
+      → IsVerdict one_page tray.file (sources_of page) (targets_of page) (Refused error)
+      → ¬ Rose tray.faults tray'.faults → (status ≡ status_of error) ⊎ (status ≡ out_of_memory)
 
 -- Status 5 comes only for a page, and only where the tray's count rose. The names handed to
 -- `begin` are a prefix of those of the job and the plates, and the line names the last of them;
@@ -102,12 +102,12 @@ pub record RefusedInput (words : List (List ℕ)) (tray tray' : TrayState) (rack
 -- than is owed, and neither a failed write nor out of memory passes a fault of the tray over.
 pub record ReadFault (words : List (List ℕ)) (tray tray' : TrayState) (rack rack' : RackState)
     (status : ℕ) : Type 0 where
-  pub cause : status ≡ not_read → Rose tray.faults tray'.faults
+  pub reason : status ≡ not_read → Rose tray.faults tray'.faults
   pub breaks : (page : PageWords) → MeanPage words page → status ≡ not_read
       → (file : Option ℕ) × Asks tray.asked tray'.asked
-      (files_to (sources_of page) (Refusals.Read file))
+      (files_to (sources_of page) (CommonErrors.Read file))
       × BreaksReading (sources_of page) file tray tray'
-      × TellsText (line_of (Refusals.Read file)) rack rack'
+      × TellsText (line_of (CommonErrors.Read file)) rack rack'
   pub asked : (page : PageWords) → MeanPage words page
       → AsksPrefix tray.asked tray'.asked (read_files (sources_of page))
   pub in_hand : (page : PageWords) → MeanPage words page
@@ -121,11 +121,11 @@ pub record ReadFault (words : List (List ℕ)) (tray tray' : TrayState) (rack ra
 -- failed.
 pub record WriteFault (words : List (List ℕ)) (tray : TrayState) (rack rack' : RackState)
     (status : ℕ) : Type 0 where
-  pub cause : status ≡ not_written → Rose rack.faults rack'.faults
+  pub reason : status ≡ not_written → Rose rack.faults rack'.faults
   pub breaks : (page : PageWords) → MeanPage words page → status ≡ not_written
       → (file : Option ℕ) × ((made : PageParts) × IsMade (sources_of page) tray made
       × Breaks (length (targets_of page).outputs) (outcome (targets_of page) made) file rack rack')
-      × TellsAfterFault (line_of (Refusals.Write file)) rack rack'
+      × TellsAfterFault (line_of (CommonErrors.Write file)) rack rack'
   pub asked : (page : PageWords) → MeanPage words page
       → AsksPrefix rack.asked rack'.asked (written_names (targets_of page))
 
@@ -136,11 +136,11 @@ LeavesFiles rack rack' status = status ≢ done → status ≢ not_written
     → (rack'.asked ≡ rack.asked) × (rack'.is_open ≡ rack.is_open)
     × (IsTrue rack.tells → rack'.file ≡ rack.file)
 
--- Every refusal tells its line and nothing else; that of a failed write is the line of
+-- Every error tells its line and nothing else; that of a failed write is the line of
 -- `write_fault`.
 abbrev pub FaultLine : RackState → RackState → ℕ → Type 0
 FaultLine rack rack' status = status ≢ done → status ≢ not_written
-    → (refusal : Refusal) × (status ≡ status_of refusal) × TellsText (line_of refusal) rack rack'
+    → (error : CommonError) × (status ≡ status_of error) × TellsText (line_of error) rack rack'
 
 -- Where the job and the plates make a page, each sample whose written value differs from the one
 -- that was read is near the edge that it answers to.
@@ -157,15 +157,15 @@ pub record SamplePage (words : List (List ℕ)) (tray tray' : TrayState) (rack r
   pub statuses : (sample : SampleWords) → MeanSample words sample
       → (status ≡ done) ⊎ (status ≡ page_refused) ⊎ (status ≡ not_written)
       ⊎ (status ≡ out_of_memory)
-  pub told : (sample : SampleWords) → MeanSample words sample → status ≡ done → IsTrue rack.tells
-      → rack'.told ≡ rack.told ++ sample_report sample
+  pub reported : (sample : SampleWords) → MeanSample words sample → status ≡ done → IsTrue rack.tells
+      → rack'.reported ≡ rack.reported ++ sample_report sample
   pub too_many : (sample : SampleWords) → MeanSample words sample
       → (status ≡ page_refused) ↔ (IsSmall sample → ⊥)
   pub too_many_line : (sample : SampleWords) → MeanSample words sample → status ≡ page_refused
-      → TellsText (line_of (Refusals.Page TooManySamples)) rack rack'
+      → TellsText (line_of (CommonErrors.Page TooManySamples)) rack rack'
   pub in_part : (sample : SampleWords) → MeanSample words sample → status ≡ not_written
       → IsTrue rack.tells → (count : ℕ)
-      × (rack'.told ≡ rack.told ++ take count (sample_report sample))
+      × (rack'.reported ≡ rack.reported ++ take count (sample_report sample))
   pub once : (sample : SampleWords) → MeanSample words sample → status ≡ not_written
       → RoseOnce rack.faults rack'.faults
   pub files : (sample : SampleWords) → MeanSample words sample → IsTrue rack.tells

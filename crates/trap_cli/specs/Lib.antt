@@ -2,7 +2,7 @@ pub mod Options
 pub mod PageApp
 pub mod Plates
 pub mod Words
-pub mod Held
+pub mod Stored
 pub mod Commands
 pub mod Endings
 pub mod Clauses

@@ -1,6 +1,6 @@
 ghost use Rattle.std.specs.Prelude.{◌≡◌, true, map, option_map, string_bytes, IfOk, IfSome, OnErr};
 ghost use Rattle.trap_cli.specs.Words.{begins_with_page, command_of, page_of_words, sample_of_words, Page as page, Sample as sample};
-ghost use Rattle.trap_cli.specs.Held.{command_in, IsWithin};
+ghost use Rattle.trap_cli.specs.Stored.{command_in, IsWithin};
 
 use crate::page_words::read_page;
 use crate::sample_words::read_sample;

@@ -1,10 +1,10 @@
 ghost use Rattle.std.specs.Prelude.{◌≡◌, None};
-ghost use Rattle.refusals.specs.Telling.{Refuses};
+ghost use Rattle.common_errors.specs.Telling.{Refuses};
 
 use band_claims::Closed;
+use common_errors::common::CommonError;
+use common_errors::telling::refuse;
 use outside::rack::Rack;
-use refusals::refusal::Refusal;
-use refusals::telling::refuse;
 
 /// How the top call ended.
 #[derive(Drop)]
@@ -15,13 +15,13 @@ pub struct Ended {
     pub receipt: Option<Closed>,
 }
 
-// Prints the line of a refusal, which ends the call without a receipt.
-pub(crate) fn end_with_refusal<R: Rack>(rack: &mut R, refusal: &Refusal) -> Ended
-    ensures line { Refuses refusal.now (R.state rack.old) (R.state rack.new) result.status }
+// Prints the line of a error, which ends the call without a receipt.
+pub(crate) fn end_with_error<R: Rack>(rack: &mut R, error: &CommonError) -> Ended
+    ensures line { Refuses error.now (R.state rack.old) (R.state rack.new) result.status }
     ensures receipt { result.receipt ≡ None }
 {
     Ended {
-        status: refuse(rack, refusal),
+        status: refuse(rack, error),
         receipt: None,
     }
 }

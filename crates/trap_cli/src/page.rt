@@ -1,14 +1,16 @@
 ghost use Rattle.std.specs.Prelude.{◌≡◌, length, vec_len};
 ghost use Rattle.page_model.specs.Page.{plates};
-ghost use Rattle.trap_cli.specs.Held.{IsPageWithin, page_in};
+ghost use Rattle.trap_cli.specs.Stored.{IsPageWithin, page_in};
 ghost use Rattle.trap_cli.specs.Commands.{sources_of, targets_of};
 ghost use Rattle.page_files.specs.Gathering.{ReadsPage};
 ghost use Rattle.trap_cli.specs.Endings.{CarriesOut, EndsPage};
 ghost use Rattle.page_output.specs.Output.{PutsOut};
 
-use crate::ending::{Ended, end_with_refusal};
-use band_claims::Closed;
-use band_claims::Gate;
+use crate::command::PageArgs;
+use crate::ending::{Ended, end_with_error};
+use band_claims::{Closed, Gate};
+use common_errors::common::CommonError;
+use common_errors::statuses::DONE;
 use outside::rack::Rack;
 use outside::tray::Tray;
 use page_files::gather::gather;
@@ -16,11 +18,8 @@ use page_model::page::Page;
 use page_model::parts::OutOfMemory;
 use page_output::output::{OutputArgs, put_out};
 use plain_words::files::{plate_inputs, plate_names, plate_outputs};
-use refusals::refusal::Refusal;
-use refusals::statuses::DONE;
 use std::alloc::Global;
 use std::thread::Threads;
-use crate::command::PageArgs;
 
 // Runs the command `page`, and returns how it ended.
 pub(crate) fn run_page<H: Threads + Sync, T: Tray, R: Rack, G: Gate + Sync>(
@@ -41,7 +40,7 @@ pub(crate) fn run_page<H: Threads + Sync, T: Tray, R: Rack, G: Gate + Sync>(
             status: DONE,
             receipt: Some(receipt),
         },
-        Err(refusal) => end_with_refusal(rack, &refusal),
+        Err(error) => end_with_error(rack, &error),
     }
 }
 
@@ -53,7 +52,7 @@ fn carry_out<H: Threads + Sync, T: Tray, R: Rack, G: Gate + Sync>(
     tray: &mut T,
     rack: &mut R,
     gate: &G,
-) -> Result<Closed, Refusal>
+) -> Result<Closed, CommonError>
     requires { IsPageWithin command.now }
     ensures { let page = page_in command.now in
         CarriesOut page.band (sources_of page) (targets_of page) (T.state tray.old)
@@ -61,12 +60,16 @@ fn carry_out<H: Threads + Sync, T: Tray, R: Rack, G: Gate + Sync>(
 {
     match read_page(alloc, command, tray) {
         Ok(page) => write_out(rt, alloc, command, &page, rack, gate),
-        Err(refusal) => Err(refusal),
+        Err(error) => Err(error),
     }
 }
 
 // Reads the page of the command's job and plates.
-fn read_page<T: Tray>(alloc: Global, command: &PageArgs<'_>, tray: &mut T) -> Result<Page, Refusal>
+fn read_page<T: Tray>(
+    alloc: Global,
+    command: &PageArgs<'_>,
+    tray: &mut T,
+) -> Result<Page, CommonError>
     requires { IsPageWithin command.now }
     ensures { let source = sources_of (page_in command.now) in
         ReadsPage source (T.state tray.old) (T.state tray.new) result }
@@ -74,7 +77,7 @@ fn read_page<T: Tray>(alloc: Global, command: &PageArgs<'_>, tray: &mut T) -> Re
     let words = command.plates.as_slice();
     match (plate_names(alloc, words), plate_inputs(alloc, words)) {
         (Ok(names), Ok(inputs)) => gather(alloc, tray, command.job, &names, inputs.as_slice()),
-        _ => Err(Refusal::Memory),
+        _ => Err(CommonError::Memory),
     }
 }
 
@@ -86,7 +89,7 @@ fn write_out<H: Threads + Sync, R: Rack, G: Gate + Sync>(
     page: &Page,
     rack: &mut R,
     gate: &G,
-) -> Result<Closed, Refusal>
+) -> Result<Closed, CommonError>
     requires within { IsPageWithin command.now }
     requires count { plates page.now ≡ vec_len command.now.plates }
     ensures { let meant = page_in command.now in
@@ -95,7 +98,7 @@ fn write_out<H: Threads + Sync, R: Rack, G: Gate + Sync>(
 {
     let _valid = page.plates();
     let Ok(outputs) = plate_outputs(alloc, command.plates.as_slice()) else {
-        return Err(Refusal::Memory);
+        return Err(CommonError::Memory);
     };
     let order = OutputArgs {
         workers: command.workers,

@@ -3,7 +3,7 @@ ghost use Rattle.std.specs.Option.{ForSome};
 ghost use Rattle.clap.specs.Words.{app_of, found_of, rows_of, with_rule};
 ghost use Rattle.trap_cli.specs.PageApp.{is_taken, option_rule, page_app, rows_in, word_rule, words_rule};
 ghost use Rattle.trap_cli.specs.Words.{page_of as page_spec, page_of_rows, page_of_words, page_with as page_made};
-ghost use Rattle.trap_cli.specs.Held.{IsPageWithin, page_in, plates_in};
+ghost use Rattle.trap_cli.specs.Stored.{IsPageWithin, page_in, plates_in};
 ghost use Rattle.page_model.specs.Limits.{most_band_height, most_plates, most_workers};
 
 use crate::command::PageArgs;
@@ -62,7 +62,7 @@ fn matches_by<'a>(
 // Out of memory is an error of its own; every other error refuses the words.
 fn without_matches<'a>(kind: ErrorKind) -> Result<Option<ArgMatches<'a>>, OutOfMemory>
     ensures none { IfOk result (λ r. is_some r ≡ false) }
-    ensures cause { OnOk result (kind ≢ ErrorKind.OutOfMemory) }
+    ensures reason { OnOk result (kind ≢ ErrorKind.OutOfMemory) }
     ensures memory { OnErr result (kind ≡ ErrorKind.OutOfMemory) }
 {
     match kind {

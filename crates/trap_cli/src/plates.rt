@@ -1,6 +1,6 @@
 ghost use Rattle.std.specs.Prelude.{◌≡◌, ◌≤◌, IfOk, IfSome, map, option_map, vec_len};
 ghost use Rattle.trap_cli.specs.Plates.{plates_of};
-ghost use Rattle.trap_cli.specs.Held.{plates_in};
+ghost use Rattle.trap_cli.specs.Stored.{plates_in};
 ghost use Rattle.page_model.specs.Limits.{most_plates};
 
 use lists::names::OutOfMemory;

@@ -3,23 +3,23 @@ ghost use Rattle.page_model.specs.Counts.{page_counts};
 ghost use Rattle.page_model.specs.Limits.{most_workers};
 ghost use Rattle.trap_engine.specs.Receipts.{IsWholeReceipt};
 ghost use Rattle.trap_report.specs.Report.{report_of};
-ghost use Rattle.trap_cli.specs.Held.{IsSampleWithin, sample_in};
+ghost use Rattle.trap_cli.specs.Stored.{IsSampleWithin, sample_in};
 ghost use Rattle.trap_cli.specs.Commands.{sample_band};
 ghost use Rattle.trap_cli.specs.Endings.{EndsSample, MakesReport};
 
-use crate::ending::{Ended, end_with_refusal};
+use crate::command::SampleArgs;
+use crate::ending::{Ended, end_with_error};
 use band_claims::Gate;
+use common_errors::common::CommonError;
+use common_errors::statuses::{DONE, NOT_WRITTEN};
 use outside::rack::Rack;
-use outside::tray::Failed;
+use outside::tray::DeviceError;
 use page_model::page::{Page, PageFault};
 use page_model::parts::OutOfMemory;
 use page_output::outcome::{Outcome, outcome_of};
-use page_source::sample::{SampleRefusal, sample_page};
-use refusals::refusal::Refusal;
-use refusals::statuses::{DONE, NOT_WRITTEN};
+use page_source::sample::{SampleError, sample_page};
 use std::alloc::Global;
 use std::thread::Threads;
-use crate::command::SampleArgs;
 
 // The rows of a band in which a sample page is trapped.
 const SAMPLE_BAND: u32 = 64;
@@ -42,12 +42,12 @@ pub(crate) fn run_sample<H: Threads + Sync, R: Rack, G: Gate + Sync>(
                 status: DONE,
                 receipt: Some(outcome.receipt),
             },
-            Err(Failed) => Ended {
+            Err(DeviceError) => Ended {
                 status: NOT_WRITTEN,
                 receipt: None,
             },
         },
-        Err(refusal) => end_with_refusal(rack, &refusal),
+        Err(error) => end_with_error(rack, &error),
     }
 }
 
@@ -56,14 +56,14 @@ fn sample_outcome<H: Threads + Sync, G: Gate + Sync>(
     alloc: Global,
     command: SampleArgs,
     gate: &G,
-) -> Result<Outcome, Refusal>
+) -> Result<Outcome, CommonError>
     requires { IsSampleWithin command }
     ensures { MakesReport (sample_in command) result }
 {
     match sample_page(alloc, command.number, command.width, command.height) {
         Ok(page) => page_outcome(rt, alloc, &page, command.workers, gate),
-        Err(SampleRefusal::TooManySamples) => Err(Refusal::Page(PageFault::TooManySamples)),
-        Err(SampleRefusal::OutOfMemory) => Err(Refusal::Memory),
+        Err(SampleError::TooManySamples) => Err(CommonError::Page(PageFault::TooManySamples)),
+        Err(SampleError::OutOfMemory) => Err(CommonError::Memory),
     }
 }
 
@@ -74,16 +74,16 @@ fn page_outcome<H: Threads + Sync, G: Gate + Sync>(
     page: &Page,
     workers: u32,
     gate: &G,
-) -> Result<Outcome, Refusal>
+) -> Result<Outcome, CommonError>
     requires some_workers { 1 ≤ workers }
     requires few_workers { workers ≤ most_workers }
-    ensures { let told = report_of page.now (page_counts page.now) in
-        MatchResult result (λ made. (made.report ≡ told)
+    ensures { let reported = report_of page.now (page_counts page.now) in
+        MatchResult result (λ made. (made.report ≡ reported)
         × IsWholeReceipt page.now sample_band made.receipt)
-        (λ refusal. refusal ≡ Refusal.Memory) }
+        (λ error. error ≡ CommonError.Memory) }
 {
     match outcome_of(rt, alloc, page, workers, SAMPLE_BAND, gate) {
         Ok(outcome) => Ok(outcome),
-        Err(OutOfMemory) => Err(Refusal::Memory),
+        Err(OutOfMemory) => Err(CommonError::Memory),
     }
 }

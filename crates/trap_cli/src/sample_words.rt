@@ -1,7 +1,7 @@
 ghost use Rattle.std.specs.Prelude.{◌≡◌, ◌≤◌, IfSome, map, option_map, string_bytes};
 ghost use Rattle.std.specs.Option.{ForSome};
 ghost use Rattle.trap_cli.specs.Words.{sample_of_words, sample_with as sample_spec};
-ghost use Rattle.trap_cli.specs.Held.{IsSampleWithin, sample_in};
+ghost use Rattle.trap_cli.specs.Stored.{IsSampleWithin, sample_in};
 ghost use Rattle.page_model.specs.Limits.{most_side, most_workers};
 
 use crate::command::SampleArgs;

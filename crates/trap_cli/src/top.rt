@@ -2,19 +2,19 @@ ghost use Rattle.std.specs.Prelude.{map, string_bytes};
 ghost use Rattle.trap_cli.specs.Clauses.{Success, Usage, RefusedInput, ReadFault, WriteFault, LeavesFiles, FaultLine, Locality, SamplePage, Completeness};
 ghost use Rattle.trap_cli.specs.Endings.{Ends};
 
+use crate::command::{Command, read_words};
 pub use crate::ending::Ended;
-use crate::ending::end_with_refusal;
+use crate::ending::end_with_error;
 use crate::page::run_page;
 use crate::sample::run_sample;
 use band_claims::Gate;
+use common_errors::common::CommonError;
 use outside::rack::Rack;
 use outside::tray::Tray;
 use page_model::parts::OutOfMemory;
 use pgm_plates::laws::{not_both, one_fault, one_plate};
-use refusals::refusal::Refusal;
 use std::alloc::Global;
 use std::thread::Threads;
-use crate::command::{Command, read_words};
 
 /// Runs the command of the words, and returns the status that the program exits with, and at status 0 the receipt of
 /// the work.
@@ -27,7 +27,7 @@ use crate::command::{Command, read_words};
 ///
 /// The status is 0 if the work is done; 2 if the words are no command; 3 if the job has a fault or lacks the details of
 /// a plate's colorant; 4 if a plate's file has a fault, or the plates do not make a page; 5 if a read failed; 6 if a
-/// write failed; and 7 if memory ran out. Each refusal prints one line that names the cause.
+/// write failed; and 7 if memory ran out. Each error prints one line that names the cause.
 ///
 /// The receipt of status 0 is the closed table of the page that the job and the plates make, in bands of B rows, or of
 /// the sample page, in bands of 64. In it every piece is done and every cell is that of the whole-page rule; no piece
@@ -79,7 +79,7 @@ fn run<H: Threads + Sync, T: Tray, R: Rack, G: Gate + Sync>(
     match read_words(alloc, words) {
         Ok(Some(Command::Page(page))) => run_page(rt, alloc, &page, tray, rack, gate),
         Ok(Some(Command::Sample(sample))) => run_sample(rt, alloc, sample, rack, gate),
-        Ok(None) => end_with_refusal(rack, &Refusal::Usage),
-        Err(OutOfMemory) => end_with_refusal(rack, &Refusal::Memory),
+        Ok(None) => end_with_error(rack, &CommonError::Usage),
+        Err(OutOfMemory) => end_with_error(rack, &CommonError::Memory),
     }
 }

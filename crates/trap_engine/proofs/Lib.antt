@@ -1,4 +1,4 @@
 pub mod PartLemmas
-pub mod RoomLemmas
+pub mod WorkspaceLemmas
 pub mod TableRows
 pub mod TakeLemmas

@@ -34,5 +34,5 @@ row_marks page y marks h = record {
 }
 
 -- all cells of a finished table are known
-pub cells_held : (page : PageParts) (receipt : Receipt) (i : ℕ) → IsFinished page receipt → HasCells receipt i
-cells_held page receipt i h = λ j has. h.cells j (omega (arith, has.below, (fit_shape receipt.table_key h.fit).inside i has.piece))
+pub cells_stored : (page : PageParts) (receipt : Receipt) (i : ℕ) → IsFinished page receipt → HasCells receipt i
+cells_stored page receipt i h = λ j has. h.cells j (omega (arith, has.below, (fit_shape receipt.table_key h.fit).inside i has.piece))

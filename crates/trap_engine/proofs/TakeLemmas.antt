@@ -29,8 +29,8 @@ use Rattle.trap_engine.specs.Taking.{HasTaken, IsTakenPlate}
 pub no_rows : (w : ℕ) → 0 ≡ 0 * w
 no_rows w = omega arith
 
-pub none_held : (page : PageParts) (c : ℕ) (tints : List ℕ) → tints ≡ [] → HasTaken page c (0 * width page) tints
-none_held page c tints e = record { long = ap length e ∙ no_rows (width page); each = λ k l. absurd (omega (arith, l, no_rows (width page))) }
+pub none_stored : (page : PageParts) (c : ℕ) (tints : List ℕ) → tints ≡ [] → HasTaken page c (0 * width page) tints
+none_stored page c tints e = record { long = ap length e ∙ no_rows (width page); each = λ k l. absurd (omega (arith, l, no_rows (width page))) }
 
 pub none_changed : (f : ℕ → Bool) (w : ℕ) → 0 ≡ count_below f (0 * w)
 none_changed f w = ap (count_below f) (no_rows w)

@@ -1,5 +1,5 @@
 pub mod Memory
 pub mod Receipts
 pub mod Parts
-pub mod Room
+pub mod Workspace
 pub mod Taking

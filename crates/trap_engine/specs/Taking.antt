@@ -26,7 +26,7 @@ pub record IsTakenPlate (page : PageParts) (c : ℕ) (tints : List ℕ) (changed
 pub record IsPlateWork (page : PageParts) (c : ℕ) (work : PlateWork) : Type 0 where
   pub row : length work.row.items ≡ width page
   pub none : work.done ≡ false → work.tints.items ≡ []
-  pub room : work.done ≡ false → samples page ≤ vec_capacity work.tints
+  pub workspace : work.done ≡ false → samples page ≤ vec_capacity work.tints
   pub ended : work.done ≡ true → IsTakenPlate page c work.tints.items work.changed
 
 -- the works of all plates

@@ -3,11 +3,11 @@
 
 mod parts;
 mod plates;
-mod room;
 mod table;
 mod tally;
+mod workspace;
 
 pub use page_tally::Trapped;
-pub use room::TrapRoom;
 pub use strip_engine::trap_alone;
 pub use table::{trap_in, trap_page};
+pub use workspace::TrapWorkspace;

@@ -6,7 +6,7 @@ ghost use Rattle.band_claims.specs.TableKeys.{IsFit};
 ghost use Rattle.band_pieces.specs.Finished.{IsFinished};
 ghost use Rattle.page_model.specs.Bands.{pieces_of};
 ghost use Rattle.page_model.specs.Page.{height, width};
-ghost use Rattle.page_tally.specs.Standing.{AreTrappedTo, HasRows, KeepsRoom};
+ghost use Rattle.page_tally.specs.Standing.{AreTrappedTo, HasRows, KeepsWorkspace};
 ghost use Rattle.page_tally.specs.Tallies.{HasPlates};
 ghost use Rattle.trap_engine.specs.Memory.{KeepsParts, KeepsTally};
 ghost use Rattle.trap_engine.specs.Parts.{AreCountedParts, AreOfSize, AreParts, AreSeatedParts, IsCounted, IsPart};
@@ -43,7 +43,7 @@ pub fn parts_of(
     most: u32,
 ) -> Result<Vec<Part>, OutOfMemory>
     requires pass { Seats shared.now pass.old }
-    requires idle { pass.old.view.held ≡ None }
+    requires idle { pass.old.view.stored ≡ None }
     requires some { 1 ≤ most }
     ensures pass { pass.new ≡ pass.old }
     ensures parts { IfOk result (λ parts. AreParts page.now parts.items) }
@@ -78,7 +78,7 @@ fn count_by_reader(shared: &Shared, page: &Page, planes: &[Plane], part: &mut Pa
     requires part { IsPart page.now part.old }
     ensures rows { part.new.rows ≡ part.old.rows }
     ensures part { IsPart page.now part.new }
-    ensures room { KeepsTally part.old.tally part.new.tally }
+    ensures workspace { KeepsTally part.old.tally part.new.tally }
 {
     if part.done {
         return;
@@ -113,7 +113,7 @@ pub fn count_by_readers<R: Threads + Sync>(
     requires seats { AreSeatedParts shared.now parts.old }
     requires parts { AreParts page.now parts.old }
     ensures parts { AreParts page.now parts.new }
-    ensures room { KeepsParts parts.old parts.new }
+    ensures workspace { KeepsParts parts.old parts.new }
 {
     let threads = parts.len();
     thread::for_each_mut(
@@ -127,7 +127,7 @@ pub fn count_by_readers<R: Threads + Sync>(
             requires part { IsPart page.now part.now }
             ensures rows { part.exit.now.rows ≡ part.entry.now.rows }
             ensures part { IsPart page.entry.now part.exit.now }
-            ensures room { KeepsTally part.entry.now.tally part.exit.now.tally }
+            ensures workspace { KeepsTally part.entry.now.tally part.exit.now.tally }
         { count_by_reader(shared, page, planes, part) },
     );
 }
@@ -139,7 +139,7 @@ fn count_left(closed: &Closed, page: &Page, planes: &[Plane], part: &mut Part)
     requires part { IsPart page.now part.old }
     ensures rows { part.new.rows ≡ part.old.rows }
     ensures part { IsCounted page.now part.new }
-    ensures room { KeepsTally part.old.tally part.new.tally }
+    ensures workspace { KeepsTally part.old.tally part.new.tally }
 {
     if part.done {
         return;
@@ -164,7 +164,7 @@ pub fn count_those_left(closed: &Closed, page: &Page, planes: &[Plane], parts: &
     requires planes { AreTrappedTo page.now planes.now (height page.now * width page.now) }
     requires parts { AreParts page.now parts.old }
     ensures parts { AreCountedParts page.now parts.new }
-    ensures room { KeepsParts parts.old parts.new }
+    ensures workspace { KeepsParts parts.old parts.new }
 {
     for i in 0..parts.len() {
         count_left(closed, page, planes, &mut parts[i]);
@@ -176,7 +176,7 @@ fn add_part(outcome: &mut Outcome, page: &Page, part: &Part)
     requires plates { HasPlates page.now part.now.rows.first outcome.old }
     requires part { IsCounted page.now part.now }
     ensures plates { HasPlates page.now (part.now.rows.first + part.now.rows.count) outcome.new }
-    ensures room { KeepsRoom outcome.old outcome.new }
+    ensures workspace { KeepsWorkspace outcome.old outcome.new }
 {
     let tally = &part.tally;
     outcome.add(
@@ -193,7 +193,7 @@ pub fn add_parts(outcome: &mut Outcome, page: &Page, parts: &[Part])
     requires plates { HasPlates page.now 0 outcome.old }
     requires parts { AreCountedParts page.now parts.now }
     ensures rows { HasRows page.now (height page.now) outcome.new }
-    ensures room { KeepsRoom outcome.old outcome.new }
+    ensures workspace { KeepsWorkspace outcome.old outcome.new }
 {
     for i in 0..parts.len() {
         add_part(outcome, page, &parts[i]);

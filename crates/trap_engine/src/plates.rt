@@ -8,19 +8,19 @@ ghost use Rattle.lists.specs.Words.{count_below};
 ghost use Rattle.page_model.specs.Bands.{pieces_of};
 ghost use Rattle.page_model.specs.Counts.{plate_changes};
 ghost use Rattle.page_model.specs.Page.{height, maxval, plates, samples, width};
-ghost use Rattle.page_tally.specs.Standing.{IsPlateRow, KeepsRoom};
+ghost use Rattle.page_tally.specs.Standing.{IsPlateRow, KeepsWorkspace};
 ghost use Rattle.page_tally.specs.Tallies.{HasPlates, HasTallies};
 ghost use Rattle.trap_engine.specs.Memory.{KeepsWorks};
 ghost use Rattle.trap_engine.specs.Taking.{ArePlateWorks, AreSeatedWorks, AreTakenPlates, HasTaken, IsPlateWork, IsTakenPlate};
 ghost use Rattle.page_model.specs.Limits.{most_plates};
 
 use band_claims::{Closed, Reader, Shared};
+use band_core::layout::Layout;
 use band_pieces::{CellSource, are_all_done, read_plate};
 use lists::list::List;
 use page_model::page::Page;
 use page_model::parts::Plane;
 use page_tally::{Outcome, differences};
-use band_core::layout::Layout;
 use row_values::tints_of_row;
 use std::thread;
 use std::thread::Threads;
@@ -44,9 +44,9 @@ fn add_row(page: &Page, y: u32, c: u32, row: &[u16], tints: &mut Vec<u16>) -> u6
     requires plate { c < plates page.now }
     requires row { IsPlateRow page.now y c row.now }
     requires tints { HasTaken page.now c (y * width page.now) tints.old.items }
-    requires room { samples page.now ≤ vec_capacity tints.old }
+    requires workspace { samples page.now ≤ vec_capacity tints.old }
     ensures tints { HasTaken page.now c ((y + 1) * width page.now) tints.new.items }
-    ensures room { vec_capacity tints.old ≤ vec_capacity tints.new }
+    ensures workspace { vec_capacity tints.old ≤ vec_capacity tints.new }
     ensures count { result ≡ count_below (λ x. plate_changes page.now c (record { x = x; y = y }))
         (width page.now) }
     ensures few { result ≤ width page.now }
@@ -75,7 +75,7 @@ fn take_plate<S, C: CellSource<S>>(
     requires plate { c < plates page.now }
     requires row { length row.old ≡ width page.now }
     requires none { tints.old.items ≡ [] }
-    requires room { samples page.now ≤ vec_capacity tints.old }
+    requires workspace { samples page.now ≤ vec_capacity tints.old }
     ensures seat { seat.new ≡ seat.old }
     ensures row { length row.new ≡ width page.now }
     ensures taken { IsTakenPlate page.now c tints.new.items result }
@@ -96,7 +96,7 @@ fn take_by_reader(shared: &Shared, page: &Page, c: u32, work: &mut PlateWork)
     requires seat { Seats shared.now work.old.reader }
     requires work { IsPlateWork page.now c work.old }
     ensures work { IsPlateWork page.now c work.new }
-    ensures room { vec_capacity work.new.row ≡ vec_capacity work.old.row }
+    ensures workspace { vec_capacity work.new.row ≡ vec_capacity work.old.row }
 {
     if work.done {
         return;
@@ -131,7 +131,7 @@ pub fn take_by_readers<R: Threads + Sync>(
     requires seats { AreSeatedWorks shared.now works.old }
     requires works { ArePlateWorks page.now works.old }
     ensures works { ArePlateWorks page.now works.new }
-    ensures room { KeepsWorks works.old works.new }
+    ensures workspace { KeepsWorks works.old works.new }
 {
     let _few = page.plates();
     thread::for_each_mut(
@@ -145,7 +145,7 @@ pub fn take_by_readers<R: Threads + Sync>(
             requires seat { Seats shared.now work.now.reader }
             requires work { IsPlateWork page.now c work.now }
             ensures work { IsPlateWork page.entry.now c work.exit.now }
-            ensures room { vec_capacity work.exit.now.row ≡ vec_capacity work.entry.now.row }
+            ensures workspace { vec_capacity work.exit.now.row ≡ vec_capacity work.entry.now.row }
         { take_by_reader(shared, page, c as u32, work) },
     );
 }
@@ -166,7 +166,7 @@ fn take_left(closed: &Closed, page: &Page, c: u32, work: &mut PlateWork)
     requires plate { c < plates page.now }
     requires work { IsPlateWork page.now c work.old }
     ensures taken { IsTakenPlate page.now c work.new.tints.items work.new.changed }
-    ensures room { vec_capacity work.new.row ≡ vec_capacity work.old.row }
+    ensures workspace { vec_capacity work.new.row ≡ vec_capacity work.old.row }
 {
     if work.done {
         return;
@@ -189,7 +189,7 @@ pub fn take_those_left(closed: &Closed, page: &Page, works: &mut [PlateWork])
     requires finished { IsFinished page.now closed.now }
     requires works { ArePlateWorks page.now works.old }
     ensures works { AreTakenPlates page.now works.new }
-    ensures room { KeepsWorks works.old works.new }
+    ensures workspace { KeepsWorks works.old works.new }
 {
     for c in 0..page.plates() {
         take_left(closed, page, c, &mut works[c as usize]);
@@ -201,7 +201,7 @@ pub fn put_works(outcome: &mut Outcome, page: &Page, works: Vec<PlateWork>)
     requires counted { HasTallies page.now 0 outcome.old }
     requires works { AreTakenPlates page.now works.items }
     ensures plates { HasPlates page.now 0 outcome.new }
-    ensures room { KeepsRoom outcome.old outcome.new }
+    ensures workspace { KeepsWorkspace outcome.old outcome.new }
 {
     let mut works = works;
     while let Some(work) = works.pop() {

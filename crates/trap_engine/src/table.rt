@@ -5,7 +5,7 @@ ghost use Rattle.page_model.specs.Counts.{page_counts};
 ghost use Rattle.page_model.specs.Limits.{most_band_height, most_workers};
 ghost use Rattle.page_model.specs.Page.{height};
 ghost use Rattle.page_model.specs.Tints.{trapped_planes};
-ghost use Rattle.page_tally.specs.Standing.{HasRows, KeepsRoom};
+ghost use Rattle.page_tally.specs.Standing.{HasRows, KeepsWorkspace};
 ghost use Rattle.page_tally.specs.Tallies.{HasPlates, HasTallies};
 ghost use Rattle.trap_engine.specs.Memory.{KeepsParts, KeepsWorks};
 ghost use Rattle.trap_engine.specs.Parts.{AreParts, AreSeatedParts};
@@ -14,10 +14,9 @@ ghost use Rattle.trap_engine.specs.Taking.{ArePlateWorks, AreSeatedWorks};
 
 use crate::parts::{Part, add_parts, count_by_readers, count_those_left};
 use crate::plates::{PlateWork, are_taken, put_works, take_by_readers, take_those_left};
-use crate::room::TrapRoom;
-use band_claims::{Closed, Shared};
+use crate::workspace::TrapWorkspace;
+use band_claims::{Closed, Gate, Shared, work_many};
 use band_pieces::finish_table;
-use band_claims::{Gate, work_many};
 use page_model::page::Page;
 use page_model::parts::OutOfMemory;
 use page_tally::{Outcome, Trapped};
@@ -44,9 +43,9 @@ fn take_side_by_side<R: Threads + Sync>(
         × HasTallies page.now 0 outcome.new) }
     ensures none { IfNone result (HasPlates page.now 0 outcome.new) }
     ensures parts { AreParts page.now parts.new }
-    ensures left_room { IfSome result (λ left. KeepsWorks works.items left.items) }
-    ensures parts_room { KeepsParts parts.old parts.new }
-    ensures outcome_room { KeepsRoom outcome.old outcome.new }
+    ensures left_workspace { IfSome result (λ left. KeepsWorks works.items left.items) }
+    ensures parts_workspace { KeepsParts parts.old parts.new }
+    ensures outcome_workspace { KeepsWorkspace outcome.old outcome.new }
 {
     let mut works = works;
     take_by_readers(rt, shared, page, parts.len(), &mut works);
@@ -72,8 +71,8 @@ fn take_rest(
     requires none { IfNone left (HasPlates page.now 0 outcome.old) }
     requires parts { AreParts page.now parts.old }
     ensures rows { HasRows page.now (height page.now) outcome.new }
-    ensures parts_room { KeepsParts parts.old parts.new }
-    ensures outcome_room { KeepsRoom outcome.old outcome.new }
+    ensures parts_workspace { KeepsParts parts.old parts.new }
+    ensures outcome_workspace { KeepsWorkspace outcome.old outcome.new }
 {
     if let Some(mut works) = left {
         take_those_left(closed, page, &mut works);
@@ -88,17 +87,17 @@ fn take_rest(
 /// them, as a receipt, the closed table that they were read out of.
 pub fn trap_in<R: Threads + Sync, G: Gate + Sync>(
     rt: &R,
-    room: TrapRoom,
+    workspace: TrapWorkspace,
     page: &Page,
     gate: &G,
 ) -> (Trapped, Closed)
-    requires page { page.now ≡ room.page.value }
+    requires page { page.now ≡ workspace.page.value }
     ensures planes { result.0.planes ≡ trapped_planes page.now }
     ensures counts { result.0.counts ≡ page_counts page.now }
-    ensures receipt { IsWholeReceipt page.now room.layout.bands.height result.1 }
-    ensures memory { result.1.room ≡ room.marks }
+    ensures receipt { IsWholeReceipt page.now workspace.layout.bands.height result.1 }
+    ensures memory { result.1.workspace ≡ workspace.marks }
 {
-    let TrapRoom {
+    let TrapWorkspace {
         shared,
         pass,
         mut scratches,
@@ -106,7 +105,7 @@ pub fn trap_in<R: Threads + Sync, G: Gate + Sync>(
         works,
         mut parts,
         mut outcome,
-    } = room;
+    } = workspace;
     let pass = work_many(rt, &shared, pass, page, &mut scratches, gate);
     let left = if parts.len() > 1 {
         take_side_by_side(rt, &shared, page, works, &mut parts, &mut outcome)
@@ -138,6 +137,6 @@ pub fn trap_page<R: Threads + Sync, G: Gate + Sync>(
     ensures counts { IfOk result (λ done. done.0.counts ≡ page_counts page.now) }
     ensures receipt { IfOk result (λ done. IsWholeReceipt page.now band done.1) }
 {
-    let room = TrapRoom::new(alloc, page, workers, band)?;
-    Ok(trap_in(rt, room, page, gate))
+    let workspace = TrapWorkspace::new(alloc, page, workers, band)?;
+    Ok(trap_in(rt, workspace, page, gate))
 }

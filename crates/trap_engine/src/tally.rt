@@ -8,12 +8,12 @@ ghost use Rattle.page_tally.specs.Standing.{AreMarks, AreTrappedTo};
 ghost use Rattle.trap_engine.specs.Memory.{KeepsTally};
 ghost use Rattle.trap_engine.specs.Taking.{HasCounted};
 
+use band_core::layout::Layout;
 use band_pieces::{CellSource, read_marks, read_zones};
 use lists::memory::{no_counts, vec_of};
 use page_model::page::Page;
 use page_model::parts::{OutOfMemory, Plane};
 use page_tally::{count_changed, count_zones, edges_in, note_changes};
-use band_core::layout::Layout;
 use row_values::Rows;
 use std::alloc::Global;
 
@@ -53,7 +53,7 @@ fn count_row(page: &Page, planes: &[Plane], first: u32, y: u32, tally: &mut Tall
     requires marks { AreMarks page.now y tally.old.marks.items }
     requires tally { HasCounted page.now first y tally.old }
     ensures tally { HasCounted page.now first (y + 1) tally.new }
-    ensures room { KeepsTally tally.old tally.new }
+    ensures workspace { KeepsTally tally.old tally.new }
 {
     let _valid = page.plates();
     tally.edges += edges_in(&tally.marks);
@@ -89,7 +89,7 @@ fn take_row<S, C: CellSource<S>>(
     requires tally { HasCounted page.now first y tally.old }
     ensures seat { seat.new ≡ seat.old }
     ensures tally { HasCounted page.now first (y + 1) tally.new }
-    ensures room { KeepsTally tally.old tally.new }
+    ensures workspace { KeepsTally tally.old tally.new }
 {
     let rows = Rows { first: y, count: 1 };
     read_zones(source, seat, page, layout, rows, &mut tally.zones);
@@ -116,7 +116,7 @@ pub fn take_rows<S, C: CellSource<S>>(
     requires tally { HasCounted page.now rows.first rows.first tally.old }
     ensures seat { seat.new ≡ seat.old }
     ensures tally { HasCounted page.now rows.first (rows.first + rows.count) tally.new }
-    ensures room { KeepsTally tally.old tally.new }
+    ensures workspace { KeepsTally tally.old tally.new }
 {
     for k in 0..rows.count {
         take_row(

@@ -117,7 +117,7 @@ begins = record {
 }
 
 pub pushes : (n port : ℕ) (v : PassView) (x : ℕ) → v.mark ≡ true → IsAbove x v.pushed → Pushes IsKept n port v x (λ w. w ≡ pass_view v.parts v.mark (v.pushed ++ x ∷ []) v.taken)
-pushes n port v x marked above items views room h at =
+pushes n port v x marked above items views workspace h at =
     let w : PassView = pass_view v.parts v.mark (v.pushed ++ x ∷ []) v.taken in
     let o = h.orderly port v at in
     let longer : Ascends (v.pushed ++ x ∷ []) = ascends_snoc v.pushed x o.1 above in (

@@ -1,6 +1,6 @@
 pub mod Keeps
 pub mod Pushes
-pub mod Rooms
+pub mod Workspaces
 pub mod Turns
 pub mod Settling
 pub mod Numbers

@@ -17,7 +17,7 @@ module _ (made : PageParts) (trapped : Trapped) (trap : IsTrapOf made trapped) w
   done_kind None old is = absurd (cc)
   done_kind (Some page) TooLarge is = absurd (cc)
   done_kind (Some page) (Done other) is = let same : page ≡ made = cc in subst (λ (p : PageParts). IsTrapOf p trapped) (sym same) trap
-  done_kind (Some page) (Refused refusal) is = let same : page ≡ made = cc in subst (λ (p : PageParts). IsTrapOf p trapped) (sym same) trap
+  done_kind (Some page) (Refused common_error) is = let same : page ≡ made = cc in subst (λ (p : PageParts). IsTrapOf p trapped) (sym same) trap
 
   done_gathered : (page : Option PageParts) (old : Outcome) → accepted_page page old ≡ Some made → gathered_of page (Done trapped) ≡ gathered_of page old
   done_gathered None old is = absurd (cc)
@@ -27,19 +27,19 @@ module _ (made : PageParts) (trapped : Trapped) (trap : IsTrapOf made trapped) w
   done_limit u None old is limit = absurd (cc)
   done_limit u (Some page) TooLarge is limit = absurd (cc)
   done_limit u (Some page) (Done other) is limit = limit
-  done_limit u (Some page) (Refused refusal) is limit = limit
+  done_limit u (Some page) (Refused common_error) is limit = limit
 
   done_samples : (page : Option PageParts) (old : Outcome) → accepted_page page old ≡ Some made → accepted_of page (Done trapped) ≡ accepted_of page old
   done_samples None old is = absurd (cc)
   done_samples (Some page) TooLarge is = absurd (cc)
   done_samples (Some page) (Done other) is = refl
-  done_samples (Some page) (Refused refusal) is = refl
+  done_samples (Some page) (Refused common_error) is = refl
 
   done_page : (page : Option PageParts) (old : Outcome) → accepted_page page old ≡ Some made → accepted_page page (Done trapped) ≡ accepted_page page old
   done_page None old is = absurd (cc)
   done_page (Some page) TooLarge is = absurd (cc)
   done_page (Some page) (Done other) is = refl
-  done_page (Some page) (Refused refusal) is = refl
+  done_page (Some page) (Refused common_error) is = refl
 
 module _ (page : Option PageParts) (old new : Outcome) where
   kind_kept : IsReply page old → Settles page old new → IsReply page new

@@ -7,8 +7,8 @@ use Rattle.page_files.specs.Gathering.{AnswersPage, Gathers}
 use Rattle.page_files.specs.Inputs.{Makes, Sources, one_page, sources}
 use Rattle.page_model.specs.declared.parts.PageParts.{PageParts}
 use Rattle.job_list.specs.Lines.{LineParts}
-use Rattle.refusals.specs.declared.refusal.Refusal.{Refusal}
-use Rattle.refusals.specs.declared.refusal.Refusal.TheVariants as refusals
+use Rattle.common_errors.specs.declared.common.CommonError.{CommonError}
+use Rattle.common_errors.specs.declared.common.CommonError.TheVariants as errors
 use Rattle.trap_pool.specs.declared.outcome.Outcome.{Outcome}
 use Rattle.trap_pool.specs.declared.outcome.Outcome.TheVariants.{Done, Refused, TooLarge}
 use Rattle.trap_pool.specs.Pools.{AnswersLine, InTurn, IsJudged, IsReplyTo, KeepsLimit, Pools, source_of}
@@ -52,27 +52,27 @@ as_many k u (l ∷ ls) a b [] turn = absurd turn
 as_many k u (l ∷ ls) a b (r ∷ rs) turn = ap suc (as_many (k + 1) (u + accepted_of r.page r.outcome) ls turn.0 b rs turn.2)
 
 -- A read fault raises the count.
-rises : (source : Sources) (a b : TrayState) (refusal : Refusal) → b.faults < 2 ^ 64 - 1 → KeepsTray a b → AnswersPage source a b (Err refusal) → a.faults + read_fault (Refused refusal) ≤ b.faults
-rises source a b (refusals.Read None) low keeps (inl less, asked) = omega arith
-rises source a b (refusals.Read None) low keeps (inr last, asked) = absurd (omega arith)
-rises source a b (refusals.Read (Some k)) low keeps (inl less, asked, breaks) = omega arith
-rises source a b (refusals.Read (Some k)) low keeps (inr last, asked, breaks) = absurd (omega arith)
-rises source a b refusals.Memory low keeps answer = let up = keeps.faults in omega arith
-rises source a b refusals.Usage low keeps answer = let up = keeps.faults in omega arith
-rises source a b (refusals.Job fault) low keeps answer = let up = keeps.faults in omega arith
-rises source a b (refusals.NoDetails k) low keeps answer = let up = keeps.faults in omega arith
-rises source a b (refusals.Plate k fault) low keeps answer = let up = keeps.faults in omega arith
-rises source a b (refusals.Page fault) low keeps answer = let up = keeps.faults in omega arith
-rises source a b (refusals.Write file) low keeps answer = let up = keeps.faults in omega arith
+rises : (source : Sources) (a b : TrayState) (common_error : CommonError) → b.faults < 2 ^ 64 - 1 → KeepsTray a b → AnswersPage source a b (Err common_error) → a.faults + read_fault (Refused common_error) ≤ b.faults
+rises source a b (errors.Read None) low keeps (inl less, asked) = omega arith
+rises source a b (errors.Read None) low keeps (inr last, asked) = absurd (omega arith)
+rises source a b (errors.Read (Some k)) low keeps (inl less, asked, breaks) = omega arith
+rises source a b (errors.Read (Some k)) low keeps (inr last, asked, breaks) = absurd (omega arith)
+rises source a b errors.Memory low keeps answer = let up = keeps.faults in omega arith
+rises source a b errors.Usage low keeps answer = let up = keeps.faults in omega arith
+rises source a b (errors.Job fault) low keeps answer = let up = keeps.faults in omega arith
+rises source a b (errors.NoDetails k) low keeps answer = let up = keeps.faults in omega arith
+rises source a b (errors.Plate k fault) low keeps answer = let up = keeps.faults in omega arith
+rises source a b (errors.Page fault) low keeps answer = let up = keeps.faults in omega arith
+rises source a b (errors.Write file) low keeps answer = let up = keeps.faults in omega arith
 
-no_fault_made : (refusal : Refusal) → refusal ≡ refusals.Memory → read_fault (Refused refusal) ≡ 0
-no_fault_made refusal is = ap (λ (r : Refusal). read_fault (Refused r)) is
+no_fault_made : (common_error : CommonError) → common_error ≡ errors.Memory → read_fault (Refused common_error) ≡ 0
+no_fault_made common_error is = ap (λ (r : CommonError). read_fault (Refused r)) is
 
 one_rises : (source : Sources) (a b : TrayState) (page : Option PageParts) (outcome : Outcome) → b.faults < 2 ^ 64 - 1 → IsReply page outcome → Gathers source a b (gathered_of page outcome) → a.faults + read_fault outcome ≤ b.faults
 one_rises source a b (Some page) (Done trapped) low kind gathers = let up = gathers.keeps.faults in omega arith
 one_rises source a b (Some page) TooLarge low kind gathers = let up = gathers.keeps.faults in omega arith
-one_rises source a b (Some page) (Refused refusal) low kind gathers = let up = gathers.keeps.faults in let none = no_fault_made refusal kind in omega arith
-one_rises source a b None (Refused refusal) low kind gathers = rises source a b refusal low gathers.keeps gathers.answer
+one_rises source a b (Some page) (Refused common_error) low kind gathers = let up = gathers.keeps.faults in let none = no_fault_made common_error kind in omega arith
+one_rises source a b None (Refused common_error) low kind gathers = rises source a b common_error low gathers.keeps gathers.answer
 one_rises source a b None (Done trapped) low kind gathers = absurd kind
 one_rises source a b None TooLarge low kind gathers = absurd kind
 
@@ -103,20 +103,20 @@ turn_at k u (l ∷ ls) line ls' a b (r ∷ rs) reply rs' same turn =
       moved (k + 1 + length ls) (k + length (l ∷ ls)) (used + accepted rs) (u + accepted (r ∷ rs)) line later.0 later.1 reply (omega arith) (omega arith) later.3,
     )
 
--- what a refusal says of the files of a tray that is the same as before
-judged : (source : Sources) (m n : TrayState) (refusal : Refusal) → AnswersPage source m n (Err refusal) → IsTrue m.tells → IsJudged m.file source refusal
-judged source m n (refusals.Job fault) answer tells = answer.1 tells
-judged source m n (refusals.NoDetails k) answer tells = answer.1 tells
-judged source m n (refusals.Plate k fault) answer tells = answer.1 tells
-judged source m n (refusals.Page fault) answer tells = answer.1 tells
-judged source m n (refusals.Read file) answer tells = tt
-judged source m n refusals.Memory answer tells = tt
-judged source m n refusals.Usage answer tells = absurd answer
-judged source m n (refusals.Write file) answer tells = absurd answer
+-- what a error says of the files of a tray that is the same as before
+judged : (source : Sources) (m n : TrayState) (common_error : CommonError) → AnswersPage source m n (Err common_error) → IsTrue m.tells → IsJudged m.file source common_error
+judged source m n (errors.Job fault) answer tells = answer.1 tells
+judged source m n (errors.NoDetails k) answer tells = answer.1 tells
+judged source m n (errors.Plate k fault) answer tells = answer.1 tells
+judged source m n (errors.Page fault) answer tells = answer.1 tells
+judged source m n (errors.Read file) answer tells = tt
+judged source m n errors.Memory answer tells = tt
+judged source m n errors.Usage answer tells = absurd answer
+judged source m n (errors.Write file) answer tells = absurd answer
 
-judged_reply : (source : Sources) (m n : TrayState) (page : Option PageParts) (refusal : Refusal) → IsReply page (Refused refusal) → Gathers source m n (gathered_of page (Refused refusal)) → IsTrue m.tells → IsJudged m.file source refusal
-judged_reply source m n (Some page) refusal kind gathers tells = subst (IsJudged m.file source) (sym kind) tt
-judged_reply source m n None refusal kind gathers tells = judged source m n refusal gathers.answer tells
+judged_reply : (source : Sources) (m n : TrayState) (page : Option PageParts) (common_error : CommonError) → IsReply page (Refused common_error) → Gathers source m n (gathered_of page (Refused common_error)) → IsTrue m.tells → IsJudged m.file source common_error
+judged_reply source m n (Some page) common_error kind gathers tells = subst (IsJudged m.file source) (sym kind) tt
+judged_reply source m n None common_error kind gathers tells = judged source m n common_error gathers.answer tells
 
 made_page : (source : Sources) (m n : TrayState) (outcome : Outcome) (page : PageParts) → Gathers source m n (gathered_of (Some page) outcome) → IsTrue m.tells → Makes one_page m.file source (Ok page)
 made_page source m n outcome page gathers tells = gathers.answer.2 tells
@@ -124,7 +124,7 @@ made_page source m n outcome page gathers tells = gathers.answer.2 tells
 too_large : (u : ℕ) (page : PageParts) (outcome : Outcome) → KeepsLimit u (Some page) outcome → (outcome ≡ TooLarge) ↔ (most_in_all < u + all_samples page)
 too_large u page TooLarge limit = (λ is. limit, λ over. refl)
 too_large u page (Done trapped) limit = (λ is. absurd (cc), λ over. absurd (omega arith))
-too_large u page (Refused refusal) limit = (λ is. absurd (cc), λ over. absurd (omega arith))
+too_large u page (Refused common_error) limit = (λ is. absurd (cc), λ over. absurd (omega arith))
 
 reply_to : (k u : ℕ) (line : LineParts) (a m n : TrayState) (reply : ReplyParts) → KeepsTray a m → AnswersLine k u line m n reply → IsReplyTo a k u line reply
 reply_to k u line a m n reply keeps answers = record {
@@ -132,8 +132,8 @@ reply_to k u line a m n reply keeps answers = record {
   kind = answers.kind;
   page = λ page is tells. subst (λ (files : List ℕ → Option (List ℕ)). Makes one_page files (source_of line) (Ok page)) keeps.file
       (made_page (source_of line) m n reply.outcome page (subst (λ (p : Option PageParts). Gathers (source_of line) m n (gathered_of p reply.outcome)) is answers.gathers) (keeps.tells ∙ tells));
-  refused = λ refusal is tells. subst (λ (files : List ℕ → Option (List ℕ)). IsJudged files (source_of line) refusal) keeps.file
-      (judged_reply (source_of line) m n reply.page refusal (subst (IsReply reply.page) is answers.kind) (subst (λ (o : Outcome). Gathers (source_of line) m n (gathered_of reply.page o)) is answers.gathers) (keeps.tells ∙ tells));
+  refused = λ common_error is tells. subst (λ (files : List ℕ → Option (List ℕ)). IsJudged files (source_of line) common_error) keeps.file
+      (judged_reply (source_of line) m n reply.page common_error (subst (IsReply reply.page) is answers.kind) (subst (λ (o : Outcome). Gathers (source_of line) m n (gathered_of reply.page o)) is answers.gathers) (keeps.tells ∙ tells));
   too_large = λ page is. too_large u page reply.outcome (subst (λ (p : Option PageParts). KeepsLimit u p reply.outcome) is answers.limit);
 }
 

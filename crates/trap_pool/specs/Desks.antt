@@ -1,12 +1,12 @@
 -- A worker's desk.
 use Rattle.page_tally.specs.Shapes.{Shape}
-use Rattle.trap_pool.specs.declared.desk.Desk.{Desk}
+use Rattle.trap_pool.specs.declared.station.Station.{Station}
 
 -- the shape of the pages that the desk is for
-abbrev pub desk_shape : Desk → Shape
-desk_shape desk = record {
-  wide = desk.wide;
-  tall = desk.tall;
-  deep = desk.deep;
-  zones = desk.zones;
+abbrev pub station_shape : Station → Shape
+station_shape station = record {
+  wide = station.wide;
+  tall = station.tall;
+  deep = station.deep;
+  zones = station.zones;
 }

@@ -6,4 +6,4 @@ pub mod Made
 pub mod Taking
 pub mod Slots
 pub mod Desks
-pub mod Rooms
+pub mod Workspaces

@@ -6,8 +6,8 @@ use Rattle.page_files.specs.Gathering.{Gathers}
 use Rattle.page_files.specs.Inputs.{Makes, Sources, one_page, sources}
 use Rattle.page_model.specs.declared.parts.PageParts.{PageParts}
 use Rattle.job_list.specs.Lines.{LineParts}
-use Rattle.refusals.specs.declared.refusal.Refusal.{Refusal}
-use Rattle.refusals.specs.declared.refusal.Refusal.TheVariants.{Read, Memory}
+use Rattle.common_errors.specs.declared.common.CommonError.{CommonError}
+use Rattle.common_errors.specs.declared.common.CommonError.TheVariants.{Read, Memory}
 use Rattle.page_files.specs.Verdicts.{IsVerdict, Refused as refused_verdict, Targets}
 use Rattle.trap_pool.specs.declared.outcome.Outcome.{Outcome}
 use Rattle.trap_pool.specs.declared.outcome.Outcome.TheVariants.{Done, Refused, TooLarge}
@@ -28,7 +28,7 @@ abbrev pub KeepsLimit : ℕ → Option PageParts → Outcome → Type 0
 KeepsLimit used None outcome = Unit {0}
 KeepsLimit used (Some page) TooLarge = most_in_all < used + all_samples page
 KeepsLimit used (Some page) (Done trapped) = used + all_samples page ≤ most_in_all
-KeepsLimit used (Some page) (Refused refusal) = used + all_samples page ≤ most_in_all
+KeepsLimit used (Some page) (Refused common_error) = used + all_samples page ≤ most_in_all
 
 -- Line k is gathered from the tray, and its reply says what came of it.
 pub record AnswersLine (k used : ℕ) (line : LineParts) (before after : TrayState)
@@ -52,12 +52,12 @@ InTurn k used (line ∷ lines) before after (reply ∷ replies) = (between : Tra
 abbrev pub nowhere : Targets
 nowhere = record { outputs = []; report = [] }
 
--- The verdict on the line's files is this refusal; of a failed read and of out of memory nothing
+-- The verdict on the line's files is this error; of a failed read and of out of memory nothing
 -- is said.
-abbrev pub IsJudged : (List ℕ → Option (List ℕ)) → Sources → Refusal → Type 0
+abbrev pub IsJudged : (List ℕ → Option (List ℕ)) → Sources → CommonError → Type 0
 IsJudged files source (Read file) = Unit {0}
 IsJudged files source Memory = Unit {0}
-IsJudged files source refusal = IsVerdict one_page files source nowhere (refused_verdict refusal)
+IsJudged files source common_error = IsVerdict one_page files source nowhere (refused_verdict common_error)
 
 -- The reply to line k, where the accepted pages of the lines before it have `used` samples.
 pub record IsReplyTo (tray : TrayState) (k used : ℕ) (line : LineParts)
@@ -66,8 +66,8 @@ pub record IsReplyTo (tray : TrayState) (k used : ℕ) (line : LineParts)
   pub kind : IsReply reply.page reply.outcome
   pub page : (page : PageParts) → reply.page ≡ Some page → IsTrue tray.tells
       → Makes one_page tray.file (source_of line) (Ok page)
-  pub refused : (refusal : Refusal) → reply.outcome ≡ Refused refusal → IsTrue tray.tells
-      → IsJudged tray.file (source_of line) refusal
+  pub refused : (common_error : CommonError) → reply.outcome ≡ Refused common_error → IsTrue tray.tells
+      → IsJudged tray.file (source_of line) common_error
   pub too_large : (page : PageParts) → reply.page ≡ Some page
       → (reply.outcome ≡ TooLarge) ↔ (most_in_all < used + all_samples page)
 

@@ -9,8 +9,8 @@ use Rattle.page_model.specs.Limits.{most_plates, most_samples}
 use Rattle.page_model.specs.Page.{height, plates, width}
 use Rattle.page_model.specs.Tints.{trapped_planes}
 use Rattle.page_tally.specs.declared.outcome.Trapped.{Trapped}
-use Rattle.refusals.specs.declared.refusal.Refusal.{Refusal}
-use Rattle.refusals.specs.declared.refusal.Refusal.TheVariants.{Usage, Read, Write, Memory}
+use Rattle.common_errors.specs.declared.common.CommonError.{CommonError}
+use Rattle.common_errors.specs.declared.common.CommonError.TheVariants.{Usage, Read, Write, Memory}
 use Rattle.trap_report.specs.Report.{report_of}
 use Rattle.trap_pool.specs.declared.outcome.Outcome.{Outcome}
 use Rattle.trap_pool.specs.declared.outcome.Outcome.TheVariants.{Done, Refused, TooLarge}
@@ -43,18 +43,18 @@ IsReady (Some page) (Done trapped) None = ⊥
 IsReady page outcome text = Unit {0}
 
 -- A page is gathered or refused: nothing else comes of the words, and nothing is written.
-abbrev pub IsReading : Refusal → Type 0
+abbrev pub IsReading : CommonError → Type 0
 IsReading Usage = ⊥
 IsReading (Write file) = ⊥
 IsReading other = Unit {0}
 
 -- A page that was gathered is trapped, or is too large, or there was no memory to trap it; else
--- there is the refusal of the page.
+-- there is the error of the page.
 abbrev pub IsReply : Option PageParts → Outcome → Type 0
 IsReply (Some page) (Done trapped) = IsTrapOf page trapped
 IsReply (Some page) TooLarge = Unit {0}
-IsReply (Some page) (Refused refusal) = refusal ≡ Memory
-IsReply None (Refused refusal) = IsReading refusal
+IsReply (Some page) (Refused common_error) = common_error ≡ Memory
+IsReply None (Refused common_error) = IsReading common_error
 IsReply None (Done trapped) = ⊥
 IsReply None TooLarge = ⊥
 
@@ -71,7 +71,7 @@ abbrev pub accepted_of : Option PageParts → Outcome → ℕ
 accepted_of None outcome = 0
 accepted_of (Some page) TooLarge = 0
 accepted_of (Some page) (Done trapped) = all_samples page
-accepted_of (Some page) (Refused refusal) = all_samples page
+accepted_of (Some page) (Refused common_error) = all_samples page
 
 -- the samples of all accepted pages
 abbrev pub accepted : List ReplyParts → ℕ
@@ -89,8 +89,8 @@ read_faults [] = 0
 read_faults (reply ∷ replies) = read_fault reply.outcome + read_faults replies
 
 -- what was gathered, be it accepted or not
-abbrev pub gathered_of : Option PageParts → Outcome → Result PageParts Refusal
+abbrev pub gathered_of : Option PageParts → Outcome → Result PageParts CommonError
 gathered_of (Some page) outcome = Ok page
-gathered_of None (Refused refusal) = Err refusal
+gathered_of None (Refused common_error) = Err common_error
 gathered_of None (Done trapped) = Err Memory
 gathered_of None TooLarge = Err Memory

@@ -3,7 +3,7 @@ use Rattle.std.specs.Prelude.{◌≡◌, ◌⊎◌, ℕ, ◌<◌, List, length, 
 use Rattle.std.specs.Prelude.{None}
 use Rattle.page_model.specs.declared.parts.PageParts.{PageParts}
 use Rattle.page_tally.specs.declared.outcome.Trapped.{Trapped}
-use Rattle.refusals.specs.declared.refusal.Refusal.TheVariants.{Memory}
+use Rattle.common_errors.specs.declared.common.CommonError.TheVariants.{Memory}
 use Rattle.trap_pool.specs.declared.outcome.Outcome.{Outcome}
 use Rattle.trap_pool.specs.declared.outcome.Outcome.TheVariants.{Done, Refused, TooLarge}
 use Rattle.trap_pool.specs.declared.traps.Traps.{Traps}
@@ -24,20 +24,20 @@ abbrev pub outcome_so_far : Option Outcome → Outcome
 outcome_so_far None = Refused Memory
 outcome_so_far (Some outcome) = outcome
 
--- A page that was gathered waits, is trapped, or is too large; else there is the refusal of the
+-- A page that was gathered waits, is trapped, or is too large; else there is the error of the
 -- page.
 abbrev pub IsGathered : Option PageParts → Option Outcome → Type 0
 IsGathered (Some page) None = Unit {0}
 IsGathered (Some page) (Some (Done trapped)) = IsTrapOf page trapped
 IsGathered (Some page) (Some TooLarge) = Unit {0}
-IsGathered (Some page) (Some (Refused refusal)) = ⊥
-IsGathered None (Some (Refused refusal)) = IsReading refusal
+IsGathered (Some page) (Some (Refused common_error)) = ⊥
+IsGathered None (Some (Refused common_error)) = IsReading common_error
 IsGathered None outcome = ⊥
 
 -- the page that was accepted, if any
 abbrev pub accepted_page : Option PageParts → Outcome → Option PageParts
 accepted_page (Some page) (Done trapped) = Some page
-accepted_page (Some page) (Refused refusal) = Some page
+accepted_page (Some page) (Refused common_error) = Some page
 accepted_page (Some page) TooLarge = None
 accepted_page None outcome = None
 

@@ -6,9 +6,9 @@ ghost use Rattle.trap_pool.specs.Taking.{SettlesBy, waiting_of};
 use crate::outcome::Outcome;
 use crate::reply::Reply;
 use crate::traps::Traps;
+use common_errors::common::CommonError;
 use page_model::page::Page;
 use page_model::parts::Name;
-use refusals::refusal::Refusal;
 use std::marker::Model;
 use std::snapshot::Snapshot;
 
@@ -75,15 +75,15 @@ impl Gathered {
     }
 
     // A line whose page was refused.
-    pub(crate) fn of_refusal(line: u32, refusal: Refusal) -> Gathered
-        requires { IsReading refusal }
-        ensures { result ≡ reply_parts line None (Outcome.Refused refusal) }
+    pub(crate) fn of_error(line: u32, common_error: CommonError) -> Gathered
+        requires { IsReading common_error }
+        ensures { result ≡ reply_parts line None (Outcome.Refused common_error) }
     {
         Gathered {
             line,
             page: Snapshot::of(&None),
             samples: 0,
-            outcome: Some(Outcome::Refused(refusal)),
+            outcome: Some(Outcome::Refused(common_error)),
             report: None,
         }
     }
@@ -109,7 +109,9 @@ impl Gathered {
     pub(crate) fn into_reply(self) -> Reply
         ensures { result ≡ self }
     {
-        let outcome = self.outcome.unwrap_or(Outcome::Refused(Refusal::Memory));
+        let outcome = self
+            .outcome
+            .unwrap_or(Outcome::Refused(CommonError::Memory));
         Reply::of_parts(self.line, self.page, outcome, self.report)
     }
 }

@@ -2,7 +2,7 @@ ghost use Rattle.std.specs.Prelude.{◌≡◌, ◌+◌, ◌<◌, ◌≤◌, ◌^
 ghost use Rattle.page_files.specs.Gathering.{Gathers};
 ghost use Rattle.trap_pool.specs.Pools.{AnswersLine, InTurn, source_of};
 ghost use Rattle.trap_pool.specs.Replies.{accepted_of, most_in_all};
-ghost use Rattle.trap_pool.specs.Rooms.{IsRoomOf};
+ghost use Rattle.trap_pool.specs.Workspaces.{IsWorkspaceOf};
 ghost use Rattle.trap_pool.specs.Taking.{pages_of, waiting_of};
 
 use crate::gathered::Gathered;
@@ -19,23 +19,23 @@ pub(crate) struct Gathering {
     pub pages: Vec<Option<Page>>,
 }
 
-// Reads the page of each line in order into `room`, which has a place for each. Later pages may be too large together
+// Reads the page of each line in order into `workspace`, which has a place for each. Later pages may be too large together
 // with those that were accepted before.
 pub(crate) fn gather_lines<T: Tray>(
     alloc: Global,
     tray: &mut T,
     lines: &LineList,
-    room: Gathering,
+    workspace: Gathering,
 ) -> Gathering
     requires numbered { length lines.now < 2 ^ 32 }
-    requires room { IsRoomOf (length lines.now) room }
+    requires workspace { IsWorkspaceOf (length lines.now) workspace }
     ensures turn { InTurn 0 0 lines.now (T.state tray.old) (T.state tray.new) result.lines.items }
     ensures pages { result.pages.items ≡ pages_of result.lines.items }
 {
     let Gathering {
         lines: mut gathered,
         mut pages,
-    } = room;
+    } = workspace;
     let mut used = 0u64;
     for number in 0..lines.len() {
         let (line, page) = gather_line(alloc, tray, &lines.as_slice()[number], number as u32, used);
@@ -70,6 +70,6 @@ fn gather_line<T: Tray>(
     let job = line.job();
     match gather(alloc, tray, job, line.names(), line.inputs()) {
         Ok(page) => Gathered::of_page(number, used, page),
-        Err(refusal) => (Gathered::of_refusal(number, refusal), None),
+        Err(common_error) => (Gathered::of_error(number, common_error), None),
     }
 }

@@ -1,5 +1,5 @@
+use common_errors::common::CommonError;
 use page_tally::Trapped;
-use refusals::refusal::Refusal;
 
 /// What became of a line.
 #[derive(Drop)]
@@ -7,7 +7,7 @@ pub enum Outcome {
     /// Its page is trapped.
     Done(Trapped),
     /// Its page was refused, or memory ran out.
-    Refused(Refusal),
+    Refused(CommonError),
     /// Its page, together with the pages that were accepted before it, has more samples than a list may have.
     TooLarge,
 }

@@ -3,7 +3,7 @@ ghost use Rattle.crossbeam_queue.specs.Passes.{IsPassOf, view};
 ghost use Rattle.trap_pool.specs.Rule.{Ascends, IsAbove, pass_view, whole};
 ghost use Rattle.trap_pool.specs.Serving.{IsUnused};
 ghost use Rattle.trap_pool.specs.Pools.{AnswersPool};
-ghost use Rattle.trap_pool.specs.Rooms.{IsOpen, IsRoomFor};
+ghost use Rattle.trap_pool.specs.Workspaces.{IsOpen, IsWorkspaceFor};
 ghost use Rattle.page_model.specs.Limits.{most_workers};
 
 use crate::gathering::{Gathering, gather_lines};
@@ -11,8 +11,8 @@ use crate::reply::{Reply, ReplyList};
 use crate::taking::replies_of;
 use crate::trapping::{Opening, trap_lines};
 use crate::work::TakeGate;
+use crate::{open_queue, workspaces_of};
 use job_list::line::LineList;
-use crate::{open_queue, rooms_of};
 use lists::list::List;
 use outside::tray::Tray;
 use page_model::page::Page;
@@ -46,15 +46,15 @@ pub fn pool_run<H: Threads + Wait + Sync, T: Tray, G: TakeGate + Sync>(
     requires few_workers { workers ≤ most_workers }
     ensures { AnswersPool lines.now (T.state tray.old) (T.state tray.new) result }
 {
-    let Ok(room) = PoolRoom::new(alloc, lines.len(), workers as usize) else {
+    let Ok(workspace) = PoolWorkspace::new(alloc, lines.len(), workers as usize) else {
         return Err(OutOfMemory);
     };
-    let PoolRoom {
+    let PoolWorkspace {
         gathering,
         replies,
         numbers,
         opening,
-    } = room;
+    } = workspace;
     let gathering = gather_lines(alloc, tray, lines, gathering);
     let numbers = waiting_lines(gathering.pages.as_slice(), numbers);
     let gathered = trap_lines::<Brand, H, G>(rt, alloc, gathering, numbers, opening, gate);
@@ -64,43 +64,47 @@ pub fn pool_run<H: Threads + Wait + Sync, T: Tray, G: TakeGate + Sync>(
 // What a pool allocates before it begins: a place for each line's page, reply and number, and what its workers begin
 // with.
 #[derive(Drop)]
-struct PoolRoom {
+struct PoolWorkspace {
     gathering: Gathering,
     replies: Vec<Reply>,
     numbers: Vec<u32>,
     opening: Opening,
 }
 
-impl PoolRoom {
-    fn new(alloc: Global, lines: usize, workers: usize) -> Result<PoolRoom, AllocError>
-        ensures { IfOk result (λ room. IsRoomFor lines workers room) }
+impl PoolWorkspace {
+    fn new(alloc: Global, lines: usize, workers: usize) -> Result<PoolWorkspace, AllocError>
+        ensures { IfOk result (λ workspace. IsWorkspaceFor lines workers workspace) }
     {
         let gathered = Vec::with_capacity(alloc, lines)?;
         let pages = Vec::with_capacity(alloc, lines)?;
         let replies = Vec::with_capacity(alloc, lines)?;
         let numbers = Vec::with_capacity(alloc, lines)?;
-        let rooms = rooms_of(alloc, workers, lines.min(PLACES))?;
+        let workspaces = workspaces_of(alloc, workers, lines.min(PLACES))?;
         let (queue, pass) = open_queue(alloc, PLACES)?;
-        Ok(PoolRoom {
+        Ok(PoolWorkspace {
             gathering: Gathering {
                 lines: gathered,
                 pages,
             },
             replies,
             numbers,
-            opening: Opening { queue, pass, rooms },
+            opening: Opening {
+                queue,
+                pass,
+                workspaces,
+            },
         })
     }
 }
 
 // The numbers of the lines whose pages wait to be trapped, in order.
-fn waiting_lines(pages: &[Option<Page>], room: Vec<u32>) -> Vec<u32>
+fn waiting_lines(pages: &[Option<Page>], workspace: Vec<u32>) -> Vec<u32>
     requires numbered { length pages.now < 2 ^ 32 }
-    requires empty { room.items ≡ [] }
-    requires room { length pages.now ≤ vec_capacity room }
+    requires empty { workspace.items ≡ [] }
+    requires workspace { length pages.now ≤ vec_capacity workspace }
     ensures { Ascends result.items }
 {
-    let mut numbers = room;
+    let mut numbers = workspace;
     for number in 0..pages.len() {
         note_waiting(&pages[number], number as u32, &mut numbers);
     }
@@ -111,11 +115,11 @@ fn waiting_lines(pages: &[Option<Page>], room: Vec<u32>) -> Vec<u32>
 fn note_waiting(page: &Option<Page>, number: u32, numbers: &mut Vec<u32>)
     requires ascends { Ascends numbers.old.items }
     requires above { IsAbove number numbers.old.items }
-    requires room { vec_len numbers.old < vec_capacity numbers.old }
+    requires workspace { vec_len numbers.old < vec_capacity numbers.old }
     ensures ascends { Ascends numbers.new.items }
     ensures above { IsAbove (number + 1) numbers.new.items }
     ensures few { vec_len numbers.new ≤ vec_len numbers.old + 1 }
-    ensures room { vec_capacity numbers.old ≤ vec_capacity numbers.new }
+    ensures workspace { vec_capacity numbers.old ≤ vec_capacity numbers.new }
 {
     if page.is_some() {
         let Ok(()) = numbers.push(number) else {

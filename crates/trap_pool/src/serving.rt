@@ -4,8 +4,8 @@ ghost use Rattle.crossbeam_queue.specs.Passes.{view, IsPassOf};
 ghost use Rattle.trap_pool.specs.Rule.{pass_view, whole, times, Ascends};
 ghost use Rattle.trap_pool.specs.Serving.{AreMade, IsServed, IsUnused, kept_lines, served_lines};
 
-use crate::rule::{FoundNone, LinePass, LineQueue, join_passes, look, pop_line, split_pass};
 use crate::line_work::LineWork;
+use crate::rule::{FoundNone, LinePass, LineQueue, join_passes, look, pop_line, split_pass};
 use std::alloc::{AllocError, Global};
 use std::sync::Wait;
 use std::thread;
@@ -21,25 +21,29 @@ pub struct Kept<K: Drop> {
 /// A worker's results: what it made of the lines that it took, and, if it stopped because the queue was empty, the
 /// token of that.
 #[derive(Drop)]
-pub struct Room<K: Drop> {
+pub struct Workspace<K: Drop> {
     pub kept: Vec<Kept<K>>,
     pub end: Option<FoundNone>,
 }
 
 /// The results of each worker.
-pub type Rooms<K> = Vec<Room<K>>;
+pub type Workspaces<K> = Vec<Workspace<K>>;
 
 /// Allocates the lists of results for `count` workers, each with a capacity of `places` lines. All are empty.
-pub fn rooms_of<K: Drop>(alloc: Global, count: usize, places: usize) -> Result<Rooms<K>, AllocError>
-    ensures { IfOk result (λ rooms. (vec_len rooms ≡ count)
-        × All (λ room. (places ≤ vec_capacity room.kept) × IsUnused room) rooms.items) }
+pub fn workspaces_of<K: Drop>(
+    alloc: Global,
+    count: usize,
+    places: usize,
+) -> Result<Workspaces<K>, AllocError>
+    ensures { IfOk result (λ workspaces. (vec_len workspaces ≡ count)
+        × All (λ workspace. (places ≤ vec_capacity workspace.kept) × IsUnused workspace) workspaces.items) }
 {
-    let mut rooms = Vec::with_capacity(alloc, count)?;
+    let mut workspaces = Vec::with_capacity(alloc, count)?;
     for _ in 0..count {
         let kept = Vec::with_capacity(alloc, places)?;
-        rooms.push(Room { kept, end: None })?;
+        workspaces.push(Workspace { kept, end: None })?;
     }
-    Ok(rooms)
+    Ok(workspaces)
 }
 
 // Takes lines until the queue is empty, or its list is full, and keeps what it makes of each.
@@ -48,16 +52,16 @@ fn serve<R: Wait, K: Drop, W: LineWork<K>>(
     queue: &LineQueue,
     work: &W,
     mut pass: LinePass,
-    room: Room<K>,
-) -> (LinePass, Room<K>)
+    workspace: Workspace<K>,
+) -> (LinePass, Workspace<K>)
     requires pass { IsPassOf queue.now pass × (view pass ≡ pass_view 1 false [] []) }
-    requires room { IsUnused room }
+    requires workspace { IsUnused workspace }
     ensures pass { IsPassOf queue.now result.0
         × (view result.0 ≡ pass_view 1 false [] (kept_lines result.1.kept.items)) }
     ensures made { AreMade (W.makes work.now) result.1 }
     ensures served { IsServed result.1 }
 {
-    let mut kept = room.kept;
+    let mut kept = workspace.kept;
     kept.clear();
     let mut end = None;
     for _ in rt.forever() {
@@ -76,58 +80,58 @@ fn serve<R: Wait, K: Drop, W: LineWork<K>>(
             unreachable!()
         };
     }
-    (pass, Room { kept, end })
+    (pass, Workspace { kept, end })
 }
 
 // A worker for each list, on a thread of its own, takes lines out of the queue.
-fn serve_rooms<R: Threads + Wait + Sync, K: Drop + Send, W: LineWork<K> + Sync>(
+fn serve_workspaces<R: Threads + Wait + Sync, K: Drop + Send, W: LineWork<K> + Sync>(
     rt: &R,
     queue: &LineQueue,
     work: &W,
     mut pass: LinePass,
-    mut rooms: Rooms<K>,
-) -> (LinePass, Rooms<K>)
+    mut workspaces: Workspaces<K>,
+) -> (LinePass, Workspaces<K>)
     requires queue { IsPassOf queue.now pass }
-    requires parts { vec_len rooms < (view pass).parts }
-    requires unused { All IsUnused rooms.items }
+    requires parts { vec_len workspaces < (view pass).parts }
+    requires unused { All IsUnused workspaces.items }
     ensures queue { IsPassOf queue.now result.0 }
-    ensures rooms { (vec_len result.1 ≡ vec_len rooms)
-        × (vec_capacity rooms ≤ vec_capacity result.1) }
+    ensures workspaces { (vec_len result.1 ≡ vec_len workspaces)
+        × (vec_capacity workspaces ≤ vec_capacity result.1) }
     ensures taken { view result.0 ≡ pass_view (view pass).parts (view pass).mark
         (view pass).pushed ((view pass).taken ++ served_lines result.1.items) }
     ensures made { All (AreMade (W.makes work.now)) result.1.items }
     ensures served { All IsServed result.1.items }
 {
-    let Some(room) = rooms.pop() else {
-        return (pass, rooms);
+    let Some(workspace) = workspaces.pop() else {
+        return (pass, workspaces);
     };
     let worker = split_pass(queue, &mut pass);
-    let ((worker, room), (mut pass, mut rooms)) = thread::join(
+    let ((worker, workspace), (mut pass, mut workspaces)) = thread::join(
         rt,
-        move || -> (LinePass, Room<K>)
+        move || -> (LinePass, Workspace<K>)
             requires { IsSync R.row × IsSync W.row × IsPassOf queue.now worker
-                × (view worker ≡ pass_view 1 false [] []) × IsUnused room }
+                × (view worker ≡ pass_view 1 false [] []) × IsUnused workspace }
             ensures { IsPassOf queue.entry.now result.0
                 × (view result.0 ≡ pass_view 1 false [] (kept_lines result.1.kept.items))
                 × AreMade (W.makes work.entry.now) result.1 × IsServed result.1 }
-        { serve(rt, queue, work, worker, room) },
-        move || -> (LinePass, Rooms<K>)
+        { serve(rt, queue, work, worker, workspace) },
+        move || -> (LinePass, Workspaces<K>)
             requires { IsSync R.row × IsSync W.row × IsPassOf queue.now pass
-                × (vec_len rooms < (view pass).parts) × All IsUnused rooms.items }
+                × (vec_len workspaces < (view pass).parts) × All IsUnused workspaces.items }
             ensures queue { IsPassOf queue.entry.now result.0 }
-            ensures rooms { (vec_len result.1 ≡ vec_len rooms)
-                × (vec_capacity rooms ≤ vec_capacity result.1) }
+            ensures workspaces { (vec_len result.1 ≡ vec_len workspaces)
+                × (vec_capacity workspaces ≤ vec_capacity result.1) }
             ensures taken { view result.0 ≡ pass_view (view pass).parts (view pass).mark
                 (view pass).pushed ((view pass).taken ++ served_lines result.1.items) }
             ensures made { All (AreMade (W.makes work.entry.now)) result.1.items }
             ensures served { All IsServed result.1.items }
-        { serve_rooms(rt, queue, work, pass, rooms) },
+        { serve_workspaces(rt, queue, work, pass, workspaces) },
     );
     join_passes(queue, &mut pass, worker);
-    let Ok(()) = rooms.push(room) else {
+    let Ok(()) = workspaces.push(workspace) else {
         unreachable!()
     };
-    (pass, rooms)
+    (pass, workspaces)
 }
 
 /// Drains the queue of the lines that the reader pushed: a worker for each list of results takes line after line, until
@@ -140,10 +144,10 @@ pub fn serve_all<R: Threads + Wait + Sync, K: Drop + Send, W: LineWork<K> + Sync
     queue: &LineQueue,
     work: &W,
     pass: LinePass,
-    rooms: Rooms<K>,
-) -> (LinePass, Rooms<K>)
+    workspaces: Workspaces<K>,
+) -> (LinePass, Workspaces<K>)
     requires queue { IsPassOf queue.now pass }
-    requires rooms { (vec_len rooms < whole) × All IsUnused rooms.items }
+    requires workspaces { (vec_len workspaces < whole) × All IsUnused workspaces.items }
     requires reader { ((view pass).mark ≡ true) × ((view pass).parts ≡ whole)
         × ((view pass).taken ≡ []) }
     ensures queue { IsPassOf queue.now result.0 }
@@ -151,11 +155,11 @@ pub fn serve_all<R: Threads + Wait + Sync, K: Drop + Send, W: LineWork<K> + Sync
         ≡ pass_view whole true (view pass).pushed (served_lines result.1.items) }
     ensures taken { (left : List ℕ) × Ascends left × ((line : ℕ) → times line (view pass).pushed
         ≡ times line (served_lines result.1.items) + times line left) }
-    ensures rooms { vec_len result.1 ≡ vec_len rooms }
+    ensures workspaces { vec_len result.1 ≡ vec_len workspaces }
     ensures made { All (AreMade (W.makes work.now)) result.1.items }
     ensures served { All IsServed result.1.items }
 {
-    let (mut pass, rooms) = serve_rooms(rt, queue, work, pass, rooms);
+    let (mut pass, workspaces) = serve_workspaces(rt, queue, work, pass, workspaces);
     look(queue, &mut pass);
-    (pass, rooms)
+    (pass, workspaces)
 }

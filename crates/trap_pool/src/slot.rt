@@ -5,8 +5,8 @@ ghost use Rattle.trap_pool.specs.Replies.{ReplyParts};
 ghost use Rattle.trap_pool.specs.Slots.{MadeOf, traps_of};
 ghost use Rattle.trap_pool.specs.Taking.{TrapsLine, reply_at, waiting_of};
 
-use crate::desk::Desk;
 use crate::stage::Stage;
+use crate::station::Station;
 use crate::traps::Traps;
 use page_model::page::Page;
 use std::alloc::Global;
@@ -62,12 +62,12 @@ impl<L: Lines> Slot<L> {
 
     // Traps the page that waits, at the idle desk or at a new one, and returns the desk. If memory runs out, the page
     // goes on waiting.
-    pub(crate) fn work(&mut self, alloc: Global, idle: Option<Desk>) -> Option<Desk> {
+    pub(crate) fn work(&mut self, alloc: Global, idle: Option<Station>) -> Option<Station> {
         match std::mem::replace(&mut self.stage, Stage::Empty) {
             Stage::Waits(page) => {
-                let (desk, stage) = trap_waiting(alloc, idle, page);
+                let (station, stage) = trap_waiting(alloc, idle, page);
                 self.stage = stage;
-                desk
+                station
             }
             stage => {
                 self.stage = stage;
@@ -93,15 +93,15 @@ impl<L: Lines> Slot<L> {
     }
 }
 
-fn trap_waiting(alloc: Global, idle: Option<Desk>, page: Page) -> (Option<Desk>, Stage)
+fn trap_waiting(alloc: Global, idle: Option<Station>, page: Page) -> (Option<Station>, Stage)
     ensures { MadeOf page result.1 }
 {
-    let Ok(desk) = Desk::for_page(alloc, idle, &page) else {
+    let Ok(station) = Station::for_page(alloc, idle, &page) else {
         return (None, Stage::Waits(page));
     };
-    let mut desk = desk;
-    match desk.trap(alloc, page) {
-        Ok(traps) => (Some(desk), Stage::Made(traps)),
-        Err(page) => (Some(desk), Stage::Waits(page)),
+    let mut station = station;
+    match station.trap(alloc, page) {
+        Ok(traps) => (Some(station), Stage::Made(traps)),
+        Err(page) => (Some(station), Stage::Waits(page)),
     }
 }

@@ -1,27 +1,27 @@
 ghost use Rattle.std.specs.Prelude.{◌≡◌, ◌≤◌, ◌<◌, ◌^◌, [], vec_capacity, vec_len};
 ghost use Rattle.trap_pool.specs.Taking.{AllSettled, TrapsLine, pages_of};
 
-use crate::desk::Desk;
 use crate::gathered::Gathered;
 use crate::reply::Reply;
 use crate::slot::{Lines, Slot};
+use crate::station::Station;
 use crate::traps::Traps;
 use page_model::page::Page;
 use std::alloc::Global;
 use std::sync::Mutex;
 
-// A slot for each line, with its page if one waits, in `room`, which has a place for each.
+// A slot for each line, with its page if one waits, in `workspace`, which has a place for each.
 pub(crate) fn slots_of<L: Lines>(
     pages: Vec<Option<Page>>,
-    room: Vec<Mutex<Slot<L>>>,
+    workspace: Vec<Mutex<Slot<L>>>,
 ) -> Vec<Mutex<Slot<L>>>
     requires pages { pages.items ≡ pages_of L.replies }
     requires numbered { vec_len pages < 2 ^ 32 }
-    requires empty { room.items ≡ [] }
-    requires room { vec_len pages ≤ vec_capacity room }
+    requires empty { workspace.items ≡ [] }
+    requires workspace { vec_len pages ≤ vec_capacity workspace }
     ensures { vec_len result ≡ vec_len pages }
 {
-    let mut slots = room;
+    let mut slots = workspace;
     for page in pages {
         let line = slots.len() as u32;
         let Ok(()) = slots.push(Mutex::new(Slot::new(line, page))) else {
@@ -41,7 +41,7 @@ pub(crate) fn take_in<L: Lines>(
     requires slots { vec_len slots ≡ vec_len gathered.old }
     ensures { AllSettled gathered.old.items gathered.new.items }
 {
-    let mut idle: Option<Desk> = None;
+    let mut idle: Option<Station> = None;
     for slot in slots {
         let mut slot = slot.into_inner();
         idle = slot.work(alloc, idle);
@@ -59,13 +59,13 @@ fn settle_at(gathered: &mut Vec<Gathered>, place: usize, traps: Traps)
     gathered[place].settle(traps);
 }
 
-// The replies to the lines, in their order, in `room`, which has a place for each.
-pub(crate) fn replies_of(gathered: Vec<Gathered>, room: Vec<Reply>) -> Vec<Reply>
-    requires empty { room.items ≡ [] }
-    requires room { vec_len gathered ≤ vec_capacity room }
+// The replies to the lines, in their order, in `workspace`, which has a place for each.
+pub(crate) fn replies_of(gathered: Vec<Gathered>, workspace: Vec<Reply>) -> Vec<Reply>
+    requires empty { workspace.items ≡ [] }
+    requires workspace { vec_len gathered ≤ vec_capacity workspace }
     ensures { result.items ≡ gathered.items }
 {
-    let mut replies = room;
+    let mut replies = workspace;
     for line in gathered {
         let Ok(()) = replies.push(line.into_reply()) else {
             unreachable!()

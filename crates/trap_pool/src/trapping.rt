@@ -2,7 +2,7 @@
 
 ghost use Rattle.std.specs.Prelude.{◌≡◌, ◌<◌, ◌^◌, vec_len};
 ghost use Rattle.trap_pool.specs.Rule.{Ascends};
-ghost use Rattle.trap_pool.specs.Rooms.{IsOpen};
+ghost use Rattle.trap_pool.specs.Workspaces.{IsOpen};
 ghost use Rattle.trap_pool.specs.Taking.{AllSettled, pages_of};
 
 use crate::gathered::Gathered;
@@ -10,7 +10,7 @@ use crate::gathering::Gathering;
 use crate::slot::Lines;
 use crate::taking::{slots_of, take_in};
 use crate::work::{PageWork, TakeGate};
-use crate::{LinePass, LineQueue, Rooms, push_lines, serve_all};
+use crate::{LinePass, LineQueue, Workspaces, push_lines, serve_all};
 use std::alloc::Global;
 use std::sync::{Mutex, Wait};
 use std::thread::Threads;
@@ -20,7 +20,7 @@ use std::thread::Threads;
 pub(crate) struct Opening {
     pub queue: LineQueue,
     pub pass: LinePass,
-    pub rooms: Rooms<()>,
+    pub workspaces: Workspaces<()>,
 }
 
 // Traps the pages that wait, whose lines have these numbers, and sets their results. If there is no memory for the
@@ -42,16 +42,16 @@ pub(crate) fn trap_lines<L: Lines + Send + Sync, H: Threads + Wait + Sync, G: Ta
 {
     let Gathering { lines, pages } = gathering;
     let mut gathered = lines;
-    let Ok(room) = Vec::with_capacity(alloc, pages.len()) else {
+    let Ok(workspace) = Vec::with_capacity(alloc, pages.len()) else {
         return gathered;
     };
-    let slots = slots_of::<L>(pages, room);
-    let desks = Mutex::new(Vec::new(alloc));
+    let slots = slots_of::<L>(pages, workspace);
+    let stations = Mutex::new(Vec::new(alloc));
     let work = PageWork {
         rt,
         alloc,
         slots: slots.as_slice(),
-        desks: &desks,
+        stations: &stations,
         gate,
     };
     serve_waiting(rt, &work, numbers.as_slice(), opening);
@@ -72,8 +72,8 @@ fn serve_waiting<L: Lines + Send + Sync, H: Threads + Wait + Sync, G: TakeGate +
     let Opening {
         queue,
         mut pass,
-        rooms,
+        workspaces,
     } = opening;
     push_lines(rt, &queue, &mut pass, numbers);
-    let _served = serve_all(rt, &queue, work, pass, rooms);
+    let _served = serve_all(rt, &queue, work, pass, workspaces);
 }

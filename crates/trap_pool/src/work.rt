@@ -1,6 +1,6 @@
-use crate::desk::Desk;
-use crate::slot::{Lines, Slot};
 use crate::LineWork;
+use crate::slot::{Lines, Slot};
+use crate::station::Station;
 use std::alloc::Global;
 use std::sync::{Mutex, Wait};
 
@@ -24,7 +24,7 @@ pub(crate) struct PageWork<'a, L: Lines, H, G> {
     pub rt: &'a H,
     pub alloc: Global,
     pub slots: &'a [Mutex<Slot<L>>],
-    pub desks: &'a Mutex<Vec<Desk>>,
+    pub stations: &'a Mutex<Vec<Station>>,
     pub gate: &'a G,
 }
 
@@ -34,9 +34,9 @@ impl<'a, L: Lines, H: Wait, G: TakeGate> LineWork<()> for PageWork<'a, L, H, G> 
     fn make(&self, line: u32) {
         self.gate.taken(line);
         if let Some(slot) = self.slots.get(line as usize) {
-            let idle = self.desks.lock(self.rt).pop();
-            if let Some(desk) = slot.lock(self.rt).work(self.alloc, idle) {
-                let _full = self.desks.lock(self.rt).push(desk);
+            let idle = self.stations.lock(self.rt).pop();
+            if let Some(station) = slot.lock(self.rt).work(self.alloc, idle) {
+                let _full = self.stations.lock(self.rt).push(station);
             }
         }
     }

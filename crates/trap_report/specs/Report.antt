@@ -4,7 +4,7 @@ use Rattle.std.specs.Fmt.{decimal}
 use Rattle.page_model.specs.declared.parts.Counts.{Counts}
 use Rattle.page_model.specs.declared.parts.PageParts.{PageParts}
 use Rattle.page_model.specs.Page.{plates, width, height, maxval, ink_at}
-use Rattle.refusals.specs.Lines.{line}
+use Rattle.common_errors.specs.Lines.{line}
 
 -- what a report begins with
 abbrev pub title_line : List ℕ

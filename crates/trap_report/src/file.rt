@@ -3,13 +3,13 @@
 ghost use Rattle.std.specs.Prelude.{◌≡◌, ◌≤◌, ◌++◌, IsTrue, codes, length};
 ghost use Rattle.outside.specs.Writing.{FillsFile, WritesFile, WritesOn};
 ghost use Rattle.page_model.specs.Page.{height, plates, width};
-ghost use Rattle.refusals.specs.Lines.{line};
+ghost use Rattle.common_errors.specs.Lines.{line};
 ghost use Rattle.trap_report.specs.Report.{AreCounts, edges_line, plate_lines, report_of, sided_page_line, title_line, zone_lines};
 
-use crate::written_lines::{edges_of, plates_of, sides_of};
 use crate::pieces::{write_plate, write_two, write_zone};
+use crate::written_lines::{edges_of, plates_of, sides_of};
 use outside::rack::Rack;
-use outside::tray::Failed;
+use outside::tray::DeviceError;
 use outside::writing::write_on;
 use page_model::parts::{Counts, PageParts};
 
@@ -23,7 +23,7 @@ pub fn write_report<R: Rack>(
     name: &str,
     sheet: &PageParts,
     counts: &Counts,
-) -> Result<(), Failed>
+) -> Result<(), DeviceError>
     requires some { 1 ≤ plates sheet.now }
     requires inks { length sheet.now.inks ≡ plates sheet.now }
     requires counts { AreCounts sheet.now counts.now }
@@ -32,12 +32,12 @@ pub fn write_report<R: Rack>(
 {
     match rack.create(name) {
         Ok(()) => fill_report(rack, sheet, counts),
-        Err(Failed) => Err(Failed),
+        Err(DeviceError) => Err(DeviceError),
     }
 }
 
 // Writes all of the open file, and finishes it.
-fn fill_report<R: Rack>(rack: &mut R, sheet: &PageParts, counts: &Counts) -> Result<(), Failed>
+fn fill_report<R: Rack>(rack: &mut R, sheet: &PageParts, counts: &Counts) -> Result<(), DeviceError>
     requires open { IsTrue (R.state rack.old).is_open }
     requires some { 1 ≤ plates sheet.now }
     requires inks { length sheet.now.inks ≡ plates sheet.now }
@@ -47,11 +47,11 @@ fn fill_report<R: Rack>(rack: &mut R, sheet: &PageParts, counts: &Counts) -> Res
 {
     match write_lines(rack, sheet, counts) {
         Ok(()) => rack.finish(),
-        Err(Failed) => Err(Failed),
+        Err(DeviceError) => Err(DeviceError),
     }
 }
 
-fn write_lines<R: Rack>(rack: &mut R, sheet: &PageParts, counts: &Counts) -> Result<(), Failed>
+fn write_lines<R: Rack>(rack: &mut R, sheet: &PageParts, counts: &Counts) -> Result<(), DeviceError>
     requires open { IsTrue (R.state rack.old).is_open }
     requires some { 1 ≤ plates sheet.now }
     requires inks { length sheet.now.inks ≡ plates sheet.now }
@@ -61,11 +61,11 @@ fn write_lines<R: Rack>(rack: &mut R, sheet: &PageParts, counts: &Counts) -> Res
 {
     match write_head(rack, sheet) {
         Ok(()) => write_body(rack, sheet, counts),
-        Err(Failed) => Err(Failed),
+        Err(DeviceError) => Err(DeviceError),
     }
 }
 
-fn write_head<R: Rack>(rack: &mut R, sheet: &PageParts) -> Result<(), Failed>
+fn write_head<R: Rack>(rack: &mut R, sheet: &PageParts) -> Result<(), DeviceError>
     requires open { IsTrue (R.state rack.old).is_open }
     requires some { 1 ≤ plates sheet.now }
     ensures { let text =
@@ -78,7 +78,7 @@ fn write_head<R: Rack>(rack: &mut R, sheet: &PageParts) -> Result<(), Failed>
 }
 
 // Writes all lines after the page's.
-fn write_body<R: Rack>(rack: &mut R, sheet: &PageParts, counts: &Counts) -> Result<(), Failed>
+fn write_body<R: Rack>(rack: &mut R, sheet: &PageParts, counts: &Counts) -> Result<(), DeviceError>
     requires open { IsTrue (R.state rack.old).is_open }
     requires inks { length sheet.now.inks ≡ plates sheet.now }
     requires counts { AreCounts sheet.now counts.now }
@@ -89,12 +89,12 @@ fn write_body<R: Rack>(rack: &mut R, sheet: &PageParts, counts: &Counts) -> Resu
 {
     match write_zones(rack, sheet.zones.len(), counts) {
         Ok(()) => write_tail(rack, sheet, counts),
-        Err(Failed) => Err(Failed),
+        Err(DeviceError) => Err(DeviceError),
     }
 }
 
 // Writes all lines after those of the zones.
-fn write_tail<R: Rack>(rack: &mut R, sheet: &PageParts, counts: &Counts) -> Result<(), Failed>
+fn write_tail<R: Rack>(rack: &mut R, sheet: &PageParts, counts: &Counts) -> Result<(), DeviceError>
     requires open { IsTrue (R.state rack.old).is_open }
     requires inks { length sheet.now.inks ≡ plates sheet.now }
     requires counts { AreCounts sheet.now counts.now }
@@ -105,12 +105,12 @@ fn write_tail<R: Rack>(rack: &mut R, sheet: &PageParts, counts: &Counts) -> Resu
     let edges = edges_of(counts.edges);
     match write_on(rack, edges.as_slice()) {
         Ok(()) => write_last(rack, sheet, counts),
-        Err(Failed) => Err(Failed),
+        Err(DeviceError) => Err(DeviceError),
     }
 }
 
 // Writes the lines of the plates, and the last line.
-fn write_last<R: Rack>(rack: &mut R, sheet: &PageParts, counts: &Counts) -> Result<(), Failed>
+fn write_last<R: Rack>(rack: &mut R, sheet: &PageParts, counts: &Counts) -> Result<(), DeviceError>
     requires open { IsTrue (R.state rack.old).is_open }
     requires inks { length sheet.now.inks ≡ plates sheet.now }
     requires counts { AreCounts sheet.now counts.now }
@@ -120,11 +120,11 @@ fn write_last<R: Rack>(rack: &mut R, sheet: &PageParts, counts: &Counts) -> Resu
 {
     match write_plates(rack, sheet, counts) {
         Ok(()) => write_on(rack, b"end\n"),
-        Err(Failed) => Err(Failed),
+        Err(DeviceError) => Err(DeviceError),
     }
 }
 
-fn write_zones<R: Rack>(rack: &mut R, zones: usize, counts: &Counts) -> Result<(), Failed>
+fn write_zones<R: Rack>(rack: &mut R, zones: usize, counts: &Counts) -> Result<(), DeviceError>
     requires open { IsTrue (R.state rack.old).is_open }
     requires samples { length counts.now.zone_samples ≡ zones }
     requires changed { length counts.now.zone_changed ≡ zones }
@@ -135,13 +135,17 @@ fn write_zones<R: Rack>(rack: &mut R, zones: usize, counts: &Counts) -> Result<(
     for zone in 0..zones {
         match write_zone(rack, zone as u64, samples[zone], changed[zone]) {
             Ok(()) => {}
-            Err(Failed) => return Err(Failed),
+            Err(DeviceError) => return Err(DeviceError),
         }
     }
     Ok(())
 }
 
-fn write_plates<R: Rack>(rack: &mut R, sheet: &PageParts, counts: &Counts) -> Result<(), Failed>
+fn write_plates<R: Rack>(
+    rack: &mut R,
+    sheet: &PageParts,
+    counts: &Counts,
+) -> Result<(), DeviceError>
     requires open { IsTrue (R.state rack.old).is_open }
     requires inks { length sheet.now.inks ≡ plates sheet.now }
     requires counts { AreCounts sheet.now counts.now }
@@ -153,7 +157,7 @@ fn write_plates<R: Rack>(rack: &mut R, sheet: &PageParts, counts: &Counts) -> Re
     for c in 0..sheet.planes.len() {
         match write_plate(rack, inks[c].name.as_slice(), changed[c]) {
             Ok(()) => {}
-            Err(Failed) => return Err(Failed),
+            Err(DeviceError) => return Err(DeviceError),
         }
     }
     Ok(())

@@ -7,4 +7,3 @@ pub mod parts;
 mod pieces;
 pub mod report;
 mod written_lines;
-

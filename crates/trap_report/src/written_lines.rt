@@ -4,8 +4,8 @@ ghost use Rattle.std.specs.Prelude.{◌≡◌, ◌≤◌, ◌++◌, ◌∷◌, [
 ghost use Rattle.page_model.specs.Page.{height, maxval, plates, width};
 ghost use Rattle.trap_report.specs.Report.{edges_line, title_line};
 
+use common_errors::line::Line;
 use page_model::parts::PageParts;
-use refusals::line::Line;
 
 // The title, and the beginning of the page's line.
 pub(crate) fn sides_of(sheet: &PageParts) -> Line

@@ -2,7 +2,7 @@
 use Rattle.std.proofs.Common.{◌≡◌, ℕ, ◌<◌, ◌≤◌, ◌+◌, List, [], ◌∷◌, ◌++◌, length, get_or, Some, None, Ok, Err, sym, ap, ◌∙◌, arith, append_assoc}
 use Rattle.std.proofs.lemmas.Grind.{common_steps}
 use Rattle.std.proofs.lemmas.List.{length-append, append-nil}
-use Rattle.outside.specs.declared.tray.Failed.{Failed}
+use Rattle.outside.specs.declared.tray.DeviceError.{DeviceError}
 use Rattle.outside.specs.Tray.{TrayState}
 use Rattle.outside.proofs.Steps.{kept_tray, rose_before}
 use Rattle.trap_set.specs.Bytes.{GivesByte, IsShortLine, ReadsNext, most_line}
@@ -20,8 +20,8 @@ no_line bytes rest line more none is less same =
 line_size : (line : List ℕ) (is : IsLine line) → length line ≡ length is.text + 1
 line_size line is = ap length is.is ∙ length-append is.text (10 ∷ [])
 
-module _ (start s t : TrayState) (held0 held held2 line : List ℕ) (so : ReadSoFar start s held0 held line) where
-  pub line_ended : (line2 : List ℕ) (byte : ℕ) → GivesByte {E = Failed} s t held held2 (Ok (Some byte)) → line2 ≡ line ++ byte ∷ [] → byte ≡ 10 → length line2 ≤ most_line → ReadsNext {E = Failed} IsShortLine start t held0 held2 (Ok (Some line2))
+module _ (start s t : TrayState) (held0 stored held2 line : List ℕ) (so : ReadSoFar start s held0 stored line) where
+  pub line_ended : (line2 : List ℕ) (byte : ℕ) → GivesByte {E = DeviceError} s t stored held2 (Ok (Some byte)) → line2 ≡ line ++ byte ∷ [] → byte ≡ 10 → length line2 ≤ most_line → ReadsNext {E = DeviceError} IsShortLine start t held0 held2 (Ok (Some line2))
   line_ended line2 byte given is ten short = record {
     keeps = kept_tray start s t so.keeps given.keeps;
     asked = given.asked ∙ so.asked;
@@ -34,10 +34,10 @@ module _ (start s t : TrayState) (held0 held held2 line : List ℕ) (so : ReadSo
     other = tt;
     part = tt;
     well = given.well ∙ so.count;
-    cause = tt;
+    reason = tt;
   }
 
-  pub line_cut : GivesByte {E = Failed} s t held held2 (Ok None) → ReadsNext {E = Failed} IsShortLine start t held0 held2 (Ok None)
+  pub line_cut : GivesByte {E = DeviceError} s t stored held2 (Ok None) → ReadsNext {E = DeviceError} IsShortLine start t held0 held2 (Ok None)
   line_cut given = record {
     keeps = kept_tray start s t so.keeps given.keeps;
     asked = given.asked ∙ so.asked;
@@ -50,10 +50,10 @@ module _ (start s t : TrayState) (held0 held held2 line : List ℕ) (so : ReadSo
     other = λ tells. (line, so.text tells ∙ ap (λ (x : List ℕ). line ++ x) ((given.none (so.keeps.tells ∙ tells)).0 ∙ sym (given.none (so.keeps.tells ∙ tells)).1));
     part = tt;
     well = given.well ∙ so.count;
-    cause = tt;
+    reason = tt;
   }
 
-  pub line_failed : (e : Failed) → GivesByte {E = Failed} s t held held2 (Err e) → ReadsNext {E = Failed} IsShortLine start t held0 held2 (Err e)
+  pub line_failed : (e : DeviceError) → GivesByte {E = DeviceError} s t stored held2 (Err e) → ReadsNext {E = DeviceError} IsShortLine start t held0 held2 (Err e)
   line_failed e given = record {
     keeps = kept_tray start s t so.keeps given.keeps;
     asked = given.asked ∙ so.asked;
@@ -63,18 +63,18 @@ module _ (start s t : TrayState) (held0 held held2 line : List ℕ) (so : ReadSo
     other = tt;
     part = λ tells. (line, so.none, so.text tells ∙ ap (λ (x : List ℕ). line ++ x) (given.kept (so.keeps.tells ∙ tells)));
     well = tt;
-    cause = rose_before start.faults s.faults t.faults so.keeps.faults given.cause;
+    reason = rose_before start.faults s.faults t.faults so.keeps.faults given.reason;
   }
 
-pub line_long : (start s : TrayState) (held0 held line : List ℕ) → ReadSoFar start s held0 held line → most_line ≤ length line → ReadsNext {E = Failed} IsShortLine start s held0 held (Ok None)
-line_long start s held0 held line so long = record {
+pub line_long : (start s : TrayState) (held0 stored line : List ℕ) → ReadSoFar start s held0 stored line → most_line ≤ length line → ReadsNext {E = DeviceError} IsShortLine start s held0 stored (Ok None)
+line_long start s held0 stored line so long = record {
   keeps = so.keeps;
   asked = so.asked;
   begun = so.begun;
   line = tt;
-  none = λ tells l more is e. no_line line (held ++ s.left) l more so.none is.0 (omega (arith, line_size l is.0, is.1)) (sym (so.text tells) ∙ e);
+  none = λ tells l more is e. no_line line (stored ++ s.left) l more so.none is.0 (omega (arith, line_size l is.0, is.1)) (sym (so.text tells) ∙ e);
   other = λ tells. (line, so.text tells);
   part = tt;
   well = so.count;
-  cause = tt;
+  reason = tt;
 }

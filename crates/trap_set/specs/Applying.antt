@@ -1,7 +1,7 @@
 -- What it means to apply the set that a file holds.
 use Rattle.std.specs.Prelude.{◌≡◌, ℕ, ◌+◌, ◌-◌, ◌*◌, ◌<◌, ◌≤◌, IsTrue, IsFalse, List, [], ◌∷◌, ◌++◌}
 use Rattle.std.specs.Prelude.{length, take, Some, Result, Ok, Err, All}
-use Rattle.outside.specs.Causes.{Rose, Asks}
+use Rattle.outside.specs.ErrorCases.{Rose, Asks}
 use Rattle.outside.specs.Tray.{TrayState, KeepsTray}
 use Rattle.page_model.specs.declared.parts.Plane.{Plane}
 use Rattle.page_model.specs.Planes.{plane_at}
@@ -9,8 +9,8 @@ use Rattle.trap_set.specs.Applied.{applied}
 use Rattle.trap_set.specs.Lines.{BeginSet, IsBadLine, lines_of}
 use Rattle.trap_set.specs.Runs.{Run}
 use Rattle.trap_set.specs.SetText.{SetHead, IsSetFile}
-use Rattle.trap_set.specs.declared.apply.SetRefusal.{SetRefusal}
-use Rattle.trap_set.specs.declared.apply.SetRefusal.TheVariants.{BadLine, Differs, ReadFault}
+use Rattle.trap_set.specs.declared.apply.SetError.{SetError}
+use Rattle.trap_set.specs.declared.apply.SetError.TheVariants.{BadLine, Differs, ReadFault}
 
 -- a plane with a tint for each sample
 abbrev pub IsFull : Plane → Type 0
@@ -70,7 +70,7 @@ pub record BreaksOff (bytes : List ℕ) (after : TrayState) (old new : List Plan
 
 -- what the answer says of the file's bytes and of the planes
 abbrev pub SaysOf : {T : Type 0} → List ℕ → TrayState → List Plane → List Plane
-    → Result T SetRefusal → Type 0
+    → Result T SetError → Type 0
 SaysOf bytes after old new (Ok done) = TakesSet bytes after old new
 SaysOf bytes after old new (Err (BadLine n)) = MeetsBadLine bytes n old new
 SaysOf bytes after old new (Err Differs) = Differ bytes old × (new ≡ old)
@@ -95,7 +95,7 @@ pub record KeepsPlanes (old new : List Plane) : Type 0 where
 
 -- no answer but a read fault passes a fault of the tray over, and that one comes only where there
 -- is one
-abbrev pub CountsFaults : {T : Type 0} → TrayState → TrayState → Result T SetRefusal → Type 0
+abbrev pub CountsFaults : {T : Type 0} → TrayState → TrayState → Result T SetError → Type 0
 CountsFaults before after (Ok done) = after.faults ≡ before.faults
 CountsFaults before after (Err (BadLine n)) = after.faults ≡ before.faults
 CountsFaults before after (Err Differs) = after.faults ≡ before.faults
@@ -106,7 +106,7 @@ abbrev pub EndsWith : List ℕ → List ℕ → Type 0
 EndsWith bytes rest = (prefix : List ℕ) × (bytes ≡ prefix ++ rest)
 
 -- what is to come after the last line
-abbrev pub SaysEnd : {T : Type 0} → ℕ → TrayState → List ℕ → Result T SetRefusal → Type 0
+abbrev pub SaysEnd : {T : Type 0} → ℕ → TrayState → List ℕ → Result T SetError → Type 0
 SaysEnd number after rest (Ok done) = (rest ≡ []) × (after.left ≡ [])
 SaysEnd number after rest (Err (BadLine n)) = (n ≡ number) × (rest ≡ [] → ⊥)
     × EndsWith rest after.left
@@ -114,17 +114,17 @@ SaysEnd number after rest (Err Differs) = ⊥
 SaysEnd number after rest (Err ReadFault) = rest ≡ after.left
 
 -- nothing stands after the last line, or what does is a bad line of that number, or the tray fails
-pub record EndsSet {T : Type 0} (number : ℕ) (before after : TrayState) (held : List ℕ)
-    (result : Result T SetRefusal) : Type 0 where
+pub record EndsSet {T : Type 0} (number : ℕ) (before after : TrayState) (stored : List ℕ)
+    (result : Result T SetError) : Type 0 where
   pub keeps : KeepsTray before after
   pub asked : after.asked ≡ before.asked
   pub begun : IsTrue after.begun
   pub count : CountsFaults before after result
-  pub says : IsTrue before.tells → SaysEnd number after (held ++ before.left) result
+  pub says : IsTrue before.tells → SaysEnd number after (stored ++ before.left) result
 
 -- the file that is begun is read and its set applied
 pub record AppliesText {T : Type 0} (before after : TrayState) (old new : List Plane)
-    (result : Result T SetRefusal) : Type 0 where
+    (result : Result T SetError) : Type 0 where
   pub keeps : KeepsTray before after
   pub asked : after.asked ≡ before.asked
   pub begun : IsTrue after.begun
@@ -137,7 +137,7 @@ pub record AppliesText {T : Type 0} (before after : TrayState) (old new : List P
 -- is and which runs the planes have; a file that is not begun is a read fault, and leaves the
 -- planes as they were. What is left is the end of the file.
 pub record AppliesSet {T : Type 0} (name : List ℕ) (before after : TrayState) (old new : List Plane)
-    (result : Result T SetRefusal) : Type 0 where
+    (result : Result T SetError) : Type 0 where
   pub keeps : KeepsTray before after
   pub asked : Asks before.asked after.asked (name ∷ [])
   pub planes : KeepsPlanes old new

@@ -55,8 +55,8 @@ abbrev pub begun_lines : SetHead → List Run → List (List ℕ)
 begun_lines head runs = title_line ∷ page_line head ∷ map run_line runs
 
 -- these lines were read of a file, and no call has failed since
-pub record Reached (lines : List (List ℕ)) (start state : TrayState) (held : List ℕ) : Type 0 where
+pub record Reached (lines : List (List ℕ)) (start state : TrayState) (stored : List ℕ) : Type 0 where
   pub keeps : KeepsTray start state
   pub asked : state.asked ≡ start.asked
   pub count : state.faults ≡ start.faults
-  pub text : IsTrue start.tells → start.left ≡ flat_map (λ line. line) lines ++ (held ++ state.left)
+  pub text : IsTrue start.tells → start.left ≡ flat_map (λ line. line) lines ++ (stored ++ state.left)

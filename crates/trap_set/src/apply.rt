@@ -1,7 +1,7 @@
 ghost use Rattle.std.specs.Prelude.{◌≡◌, ◌↔◌, ◌+◌, ◌^◌, ◌<◌, ◌≤◌, ◌∷◌, [], IsTrue, length, All, slice_index};
 ghost use Rattle.outside.specs.Tray.{TrayState};
 ghost use Rattle.trap_set.specs.Applying.{AppliesSet, AppliesText, EndsSet, Fits, IsFull, IsSized};
-ghost use Rattle.trap_set.specs.Bytes.{IsIn, held_in};
+ghost use Rattle.trap_set.specs.Bytes.{IsIn, stored_in};
 ghost use Rattle.trap_set.specs.Reading.{head_in};
 ghost use Rattle.trap_set.specs.SetText.{IsHead};
 ghost use Rattle.trap_set.specs.Standing.{Reached, begun_lines};
@@ -10,12 +10,12 @@ use crate::bytes::{Unread, next_byte};
 use crate::lines::Head;
 use crate::planes::put_run;
 use crate::steps::{Next, Place, read_next, read_page, read_title};
-use outside::tray::{Failed, Tray};
+use outside::tray::{DeviceError, Tray};
 use page_model::parts::{Plane, PlaneList};
 
 /// Why a set was not applied, or not to its end.
 #[derive(Clone, Copy, Drop)]
-pub enum SetRefusal {
+pub enum SetError {
     /// The first bad line, counted from 1: with it the text no longer begins a set. A missing line is a bad one, and so
     /// is one that has no end or more than 160 bytes.
     BadLine(u32),
@@ -31,14 +31,10 @@ const MOST_NUMBERS: usize = 19;
 
 /// Applies the set in the file `name` to the planes, run by run. It allocates nothing.
 ///
-/// The text is read line by line and each line checked at its end. After a refusal the planes have the runs of the good
+/// The text is read line by line and each line checked at its end. After a error the planes have the runs of the good
 /// lines before it. Whether the set is for these planes is checked after its second line. Whatever the answer, the
 /// planes keep their number, sides and maxvals, and if no tint was above a maxval before, none is afterwards.
-pub fn apply_set<T: Tray>(
-    tray: &mut T,
-    name: &str,
-    planes: &mut PlaneList,
-) -> Result<(), SetRefusal>
+pub fn apply_set<T: Tray>(tray: &mut T, name: &str, planes: &mut PlaneList) -> Result<(), SetError>
     requires some { 1 ≤ length planes.old }
     requires full { All IsFull planes.old }
     ensures { AppliesSet name.now (T.state tray.old) (T.state tray.new) planes.old planes.new
@@ -50,7 +46,7 @@ pub fn apply_set<T: Tray>(
             let mut numbers = [0u32; MOST_NUMBERS];
             apply_text(tray, planes, &mut buf, &mut numbers)
         }
-        Err(Failed) => Err(SetRefusal::ReadFault),
+        Err(DeviceError) => Err(SetError::ReadFault),
     }
 }
 
@@ -60,26 +56,26 @@ fn apply_text<T: Tray>(
     planes: &mut PlaneList,
     buf: &mut [u8],
     numbers: &mut [u32],
-) -> Result<(), SetRefusal>
+) -> Result<(), SetError>
     requires begun { IsTrue (T.state tray.old).begun }
     requires full { All IsFull planes.old }
-    requires room { 0 < length buf.old }
+    requires workspace { 0 < length buf.old }
     requires most { length numbers.old ≡ 19 }
     ensures { AppliesText (T.state tray.old) (T.state tray.new) planes.old planes.new result }
 {
     let mut unread = Unread { from: 0, to: 0 };
     match read_title(tray, buf, &mut unread) {
         Ok(true) => {}
-        Ok(false) => return Err(SetRefusal::BadLine(1)),
-        Err(Failed) => return Err(SetRefusal::ReadFault),
+        Ok(false) => return Err(SetError::BadLine(1)),
+        Err(DeviceError) => return Err(SetError::ReadFault),
     }
     let head = match read_page(tray, buf, &mut unread) {
         Ok(Some(head)) => head,
-        Ok(None) => return Err(SetRefusal::BadLine(2)),
-        Err(Failed) => return Err(SetRefusal::ReadFault),
+        Ok(None) => return Err(SetError::BadLine(2)),
+        Err(DeviceError) => return Err(SetError::ReadFault),
     };
     if !fits(head, planes) {
-        return Err(SetRefusal::Differs);
+        return Err(SetError::Differs);
     }
     let count = head.plates as usize + 3;
     apply_runs(tray, buf, &mut unread, planes, head, &mut numbers[..count])
@@ -112,16 +108,16 @@ fn apply_runs<T: Tray>(
     planes: &mut PlaneList,
     head: Head,
     numbers: &mut [u32],
-) -> Result<(), SetRefusal>
+) -> Result<(), SetError>
     requires begun { IsTrue (T.state tray.old).begun }
-    requires room { 0 < length buf.old }
+    requires workspace { 0 < length buf.old }
     requires within { IsIn buf.old unread.old }
     requires head { IsHead (head_in head) }
     requires fits { Fits (head_in head) planes.old }
     requires full { All IsFull planes.old }
     requires many { length numbers.old ≡ head.plates + 3 }
     ensures { (start : TrayState) → Reached (begun_lines (head_in head) []) start
-        (T.state tray.old) (held_in buf.old unread.old) → AppliesText start (T.state tray.new)
+        (T.state tray.old) (stored_in buf.old unread.old) → AppliesText start (T.state tray.new)
         planes.old planes.new result }
 {
     let mut place = Place { row: 0, column: 0 };
@@ -134,8 +130,8 @@ fn apply_runs<T: Tray>(
                 number += 1;
             }
             Ok(Next::End) => return end_set(tray, buf, unread, number + 1),
-            Ok(Next::Bad) => return Err(SetRefusal::BadLine(number)),
-            Err(Failed) => return Err(SetRefusal::ReadFault),
+            Ok(Next::Bad) => return Err(SetError::BadLine(number)),
+            Err(DeviceError) => return Err(SetError::ReadFault),
         }
     }
 }
@@ -161,16 +157,16 @@ fn end_set<T: Tray>(
     buf: &mut [u8],
     unread: &mut Unread,
     number: u32,
-) -> Result<(), SetRefusal>
+) -> Result<(), SetError>
     requires begun { IsTrue (T.state tray.old).begun }
-    requires room { 0 < length buf.old }
+    requires workspace { 0 < length buf.old }
     requires within { IsIn buf.old unread.old }
-    ensures { EndsSet number (T.state tray.old) (T.state tray.new) (held_in buf.old unread.old)
+    ensures { EndsSet number (T.state tray.old) (T.state tray.new) (stored_in buf.old unread.old)
         result }
 {
     match next_byte(tray, buf, unread) {
         Ok(None) => Ok(()),
-        Ok(Some(_)) => Err(SetRefusal::BadLine(number)),
-        Err(Failed) => Err(SetRefusal::ReadFault),
+        Ok(Some(_)) => Err(SetError::BadLine(number)),
+        Err(DeviceError) => Err(SetError::ReadFault),
     }
 }

@@ -1,10 +1,10 @@
 // The lines of the open file, one after another.
 
 ghost use Rattle.std.specs.Prelude.{◌<◌, IsTrue, length};
-ghost use Rattle.trap_set.specs.Bytes.{GivesByte, IsIn, IsShortLine, ReadsNext, found_line, held_in};
+ghost use Rattle.trap_set.specs.Bytes.{GivesByte, IsIn, IsShortLine, ReadsNext, found_line, stored_in};
 
 use arrayvec::ArrayVec;
-use outside::tray::{Failed, Tray};
+use outside::tray::{DeviceError, Tray};
 
 /// A line of a set with its LF. Every line of a set is shorter than the buffer.
 pub(crate) type SetLine = ArrayVec<u8, 160>;
@@ -21,12 +21,12 @@ pub(crate) fn next_byte<T: Tray>(
     tray: &mut T,
     buf: &mut [u8],
     unread: &mut Unread,
-) -> Result<Option<u8>, Failed>
+) -> Result<Option<u8>, DeviceError>
     requires begun { IsTrue (T.state tray.old).begun }
-    requires room { 0 < length buf.old }
+    requires workspace { 0 < length buf.old }
     requires within { IsIn buf.old unread.old }
     ensures byte { GivesByte (T.state tray.old) (T.state tray.new)
-        (held_in buf.old unread.old) (held_in buf.new unread.new) result }
+        (stored_in buf.old unread.old) (stored_in buf.new unread.new) result }
     ensures within { IsIn buf.new unread.new }
 {
     if unread.from < unread.to {
@@ -40,7 +40,7 @@ pub(crate) fn next_byte<T: Tray>(
             *unread = Unread { from: 1, to: count };
             Ok(Some(buf[0]))
         }
-        Err(Failed) => Err(Failed),
+        Err(DeviceError) => Err(DeviceError),
     }
 }
 
@@ -50,12 +50,12 @@ pub(crate) fn read_line<T: Tray>(
     buf: &mut [u8],
     unread: &mut Unread,
     line: &mut SetLine,
-) -> Result<bool, Failed>
+) -> Result<bool, DeviceError>
     requires begun { IsTrue (T.state tray.old).begun }
-    requires room { 0 < length buf.old }
+    requires workspace { 0 < length buf.old }
     requires within { IsIn buf.old unread.old }
     ensures line { ReadsNext IsShortLine (T.state tray.old) (T.state tray.new)
-        (held_in buf.old unread.old) (held_in buf.new unread.new)
+        (stored_in buf.old unread.old) (stored_in buf.new unread.new)
         (found_line result line.new.items) }
     ensures within { IsIn buf.new unread.new }
 {
@@ -69,7 +69,7 @@ pub(crate) fn read_line<T: Tray>(
                 }
             }
             Ok(None) => return Ok(false),
-            Err(Failed) => return Err(Failed),
+            Err(DeviceError) => return Err(DeviceError),
         }
     }
     Ok(false)

@@ -8,64 +8,72 @@ ghost use Rattle.trap_set.specs.SetText.{number};
 use arrayvec::ArrayVec;
 use itoa::Buffer;
 use outside::rack::Rack;
-use outside::tray::Failed;
+use outside::tray::DeviceError;
 use outside::writing::write_on;
 
 /// The bytes that are not written yet, until there are enough of them for a write.
-pub(crate) type Held = ArrayVec<u8, 4096>;
+pub(crate) type Stored = ArrayVec<u8, 4096>;
 
 /// Writes the bytes of the buffer, and empties it.
-pub(crate) fn flush<R: Rack>(rack: &mut R, held: &mut Held) -> Result<(), Failed>
+pub(crate) fn flush<R: Rack>(rack: &mut R, stored: &mut Stored) -> Result<(), DeviceError>
     requires { IsTrue (R.state rack.old).is_open }
     ensures puts { Puts []
-        held.old.items held.new.items (R.state rack.old) (R.state rack.new) result }
-    ensures none { OnOk result (held.new.items ≡ []) }
+        stored.old.items stored.new.items (R.state rack.old) (R.state rack.new) result }
+    ensures none { OnOk result (stored.new.items ≡ []) }
 {
-    match write_on(rack, held.as_slice()) {
+    match write_on(rack, stored.as_slice()) {
         Ok(()) => {
-            held.clear();
+            stored.clear();
             Ok(())
         }
-        Err(Failed) => Err(Failed),
+        Err(DeviceError) => Err(DeviceError),
     }
 }
 
 /// Appends a piece to the buffer, which is written first if the piece does not fit.
-pub(crate) fn put<R: Rack>(rack: &mut R, held: &mut Held, piece: &[u8]) -> Result<(), Failed>
+pub(crate) fn put<R: Rack>(
+    rack: &mut R,
+    stored: &mut Stored,
+    piece: &[u8],
+) -> Result<(), DeviceError>
     requires { IsTrue (R.state rack.old).is_open }
     ensures { Puts piece.now
-        held.old.items held.new.items (R.state rack.old) (R.state rack.new) result }
+        stored.old.items stored.new.items (R.state rack.old) (R.state rack.new) result }
 {
-    match held.try_extend_from_slice(piece) {
+    match stored.try_extend_from_slice(piece) {
         Ok(()) => Ok(()),
-        Err(_) => match flush(rack, held) {
-            Ok(()) => put_past(rack, held, piece),
-            Err(Failed) => Err(Failed),
+        Err(_) => match flush(rack, stored) {
+            Ok(()) => put_past(rack, stored, piece),
+            Err(DeviceError) => Err(DeviceError),
         },
     }
 }
 
 /// Puts a piece into an empty buffer, or writes it if it is too large.
-fn put_past<R: Rack>(rack: &mut R, held: &mut Held, piece: &[u8]) -> Result<(), Failed>
+fn put_past<R: Rack>(rack: &mut R, stored: &mut Stored, piece: &[u8]) -> Result<(), DeviceError>
     requires is_open { IsTrue (R.state rack.old).is_open }
-    requires none { held.old.items ≡ [] }
+    requires none { stored.old.items ≡ [] }
     ensures { Puts piece.now
-        held.old.items held.new.items (R.state rack.old) (R.state rack.new) result }
+        stored.old.items stored.new.items (R.state rack.old) (R.state rack.new) result }
 {
-    match held.try_extend_from_slice(piece) {
+    match stored.try_extend_from_slice(piece) {
         Ok(()) => Ok(()),
         Err(_) => write_on(rack, piece),
     }
 }
 
 /// Appends a space and a number.
-pub(crate) fn put_number<R: Rack>(rack: &mut R, held: &mut Held, n: u32) -> Result<(), Failed>
+pub(crate) fn put_number<R: Rack>(
+    rack: &mut R,
+    stored: &mut Stored,
+    n: u32,
+) -> Result<(), DeviceError>
     requires { IsTrue (R.state rack.old).is_open }
     ensures { Puts (number n)
-        held.old.items held.new.items (R.state rack.old) (R.state rack.new) result }
+        stored.old.items stored.new.items (R.state rack.old) (R.state rack.new) result }
 {
-    match put(rack, held, b" ") {
-        Ok(()) => put(rack, held, Buffer::new().format(n).as_bytes()),
-        Err(Failed) => Err(Failed),
+    match put(rack, stored, b" ") {
+        Ok(()) => put(rack, stored, Buffer::new().format(n).as_bytes()),
+        Err(DeviceError) => Err(DeviceError),
     }
 }

@@ -13,5 +13,5 @@ mod set;
 mod steps;
 mod writing;
 
-pub use apply::{SetRefusal, apply_set};
+pub use apply::{SetError, apply_set};
 pub use set::write_set;

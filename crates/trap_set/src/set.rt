@@ -6,91 +6,91 @@ ghost use Rattle.trap_set.specs.Rows.{rows_text};
 ghost use Rattle.trap_set.specs.Runs.{ArePair};
 ghost use Rattle.trap_set.specs.SetText.{head_of, page_line, set_text, title_line};
 
-use crate::holding::{Held, flush, put};
+use crate::holding::{Stored, flush, put};
 use crate::writing::{put_head, put_rows};
 use outside::rack::Rack;
-use outside::tray::Failed;
+use outside::tray::DeviceError;
 use page_model::parts::PlaneList;
 
 /// Appends the first two lines, and those of the runs.
 fn put_lines<R: Rack>(
     rack: &mut R,
-    held: &mut Held,
+    stored: &mut Stored,
     old: &PlaneList,
     new: &PlaneList,
     width: u32,
     height: u32,
-) -> Result<(), Failed>
+) -> Result<(), DeviceError>
     requires is_open { IsTrue (R.state rack.old).is_open }
     requires pair { ArePair old.now new.now }
     requires width { width ≡ wide old.now }
     requires height { height ≡ tall old.now }
     ensures { Puts ((title_line ++ page_line (head_of old.now))
         ++ rows_text old.now new.now (tall old.now))
-        held.old.items held.new.items (R.state rack.old) (R.state rack.new) result }
+        stored.old.items stored.new.items (R.state rack.old) (R.state rack.new) result }
 {
-    match put_head(rack, held, old) {
-        Ok(()) => put_rows(rack, held, old, new, width, height),
-        Err(Failed) => Err(Failed),
+    match put_head(rack, stored, old) {
+        Ok(()) => put_rows(rack, stored, old, new, width, height),
+        Err(DeviceError) => Err(DeviceError),
     }
 }
 
 /// Appends the whole set.
 fn put_set<R: Rack>(
     rack: &mut R,
-    held: &mut Held,
+    stored: &mut Stored,
     old: &PlaneList,
     new: &PlaneList,
     width: u32,
     height: u32,
-) -> Result<(), Failed>
+) -> Result<(), DeviceError>
     requires is_open { IsTrue (R.state rack.old).is_open }
     requires pair { ArePair old.now new.now }
     requires width { width ≡ wide old.now }
     requires height { height ≡ tall old.now }
     ensures { Puts (set_text old.now new.now)
-        held.old.items held.new.items (R.state rack.old) (R.state rack.new) result }
+        stored.old.items stored.new.items (R.state rack.old) (R.state rack.new) result }
 {
-    match put_lines(rack, held, old, new, width, height) {
-        Ok(()) => put(rack, held, b"end\n"),
-        Err(Failed) => Err(Failed),
+    match put_lines(rack, stored, old, new, width, height) {
+        Ok(()) => put(rack, stored, b"end\n"),
+        Err(DeviceError) => Err(DeviceError),
     }
 }
 
 /// Appends the whole set, and writes all of it.
 fn put_whole<R: Rack>(
     rack: &mut R,
-    held: &mut Held,
+    stored: &mut Stored,
     old: &PlaneList,
     new: &PlaneList,
     width: u32,
     height: u32,
-) -> Result<(), Failed>
+) -> Result<(), DeviceError>
     requires is_open { IsTrue (R.state rack.old).is_open }
     requires pair { ArePair old.now new.now }
     requires width { width ≡ wide old.now }
     requires height { height ≡ tall old.now }
     ensures puts { Puts (set_text old.now new.now)
-        held.old.items held.new.items (R.state rack.old) (R.state rack.new) result }
-    ensures none { OnOk result (held.new.items ≡ []) }
+        stored.old.items stored.new.items (R.state rack.old) (R.state rack.new) result }
+    ensures none { OnOk result (stored.new.items ≡ []) }
 {
-    match put_set(rack, held, old, new, width, height) {
-        Ok(()) => flush(rack, held),
-        Err(Failed) => Err(Failed),
+    match put_set(rack, stored, old, new, width, height) {
+        Ok(()) => flush(rack, stored),
+        Err(DeviceError) => Err(DeviceError),
     }
 }
 
 /// Writes the set to the open file.
-fn fill_set<R: Rack>(rack: &mut R, old: &PlaneList, new: &PlaneList) -> Result<(), Failed>
+fn fill_set<R: Rack>(rack: &mut R, old: &PlaneList, new: &PlaneList) -> Result<(), DeviceError>
     requires is_open { IsTrue (R.state rack.old).is_open }
     requires pair { ArePair old.now new.now }
     ensures { FillsFile (set_text old.now new.now) (R.state rack.old) (R.state rack.new) result }
 {
     let first = &old.as_slice()[0];
-    let mut held = Held::new();
-    match put_whole(rack, &mut held, old, new, first.width, first.height) {
+    let mut stored = Stored::new();
+    match put_whole(rack, &mut stored, old, new, first.width, first.height) {
         Ok(()) => rack.finish(),
-        Err(Failed) => Err(Failed),
+        Err(DeviceError) => Err(DeviceError),
     }
 }
 
@@ -100,13 +100,13 @@ pub fn write_set<R: Rack>(
     name: &str,
     old: &PlaneList,
     new: &PlaneList,
-) -> Result<(), Failed>
+) -> Result<(), DeviceError>
     requires { ArePair old.now new.now }
     ensures { WritesFile name.now (set_text old.now new.now)
         (R.state rack.old) (R.state rack.new) result }
 {
     match rack.create(name) {
         Ok(()) => fill_set(rack, old, new),
-        Err(Failed) => Err(Failed),
+        Err(DeviceError) => Err(DeviceError),
     }
 }

@@ -1,14 +1,14 @@
 // The lines of a set, read one after another.
 
 ghost use Rattle.std.specs.Prelude.{◌≡◌, ◌⊎◌, ◌↔◌, ◌+◌, ◌<◌, ◌≤◌, IsTrue, IfOk, IfSome, length};
-ghost use Rattle.trap_set.specs.Bytes.{IsIn, ReadsNext, found_line, held_in};
+ghost use Rattle.trap_set.specs.Bytes.{IsIn, ReadsNext, found_line, stored_in};
 ghost use Rattle.trap_set.specs.Reading.{head_in, run_in};
 ghost use Rattle.trap_set.specs.SetText.{IsHead, IsRun, end_line, run_line, title_line};
 ghost use Rattle.trap_set.specs.Standing.{IsAfter, IsPageLine, MayCome, found_next, found_page};
 
 use crate::bytes::{SetLine, Unread, read_line};
 use crate::lines::{Head, read_page_line, read_run_line};
-use outside::tray::{Failed, Tray};
+use outside::tray::{DeviceError, Tray};
 
 /// Where the next run may begin: the end of the last one.
 #[derive(Clone, Copy, Drop)]
@@ -30,12 +30,12 @@ pub(crate) fn read_title<T: Tray>(
     tray: &mut T,
     buf: &mut [u8],
     unread: &mut Unread,
-) -> Result<bool, Failed>
+) -> Result<bool, DeviceError>
     requires begun { IsTrue (T.state tray.old).begun }
-    requires room { 0 < length buf.old }
+    requires workspace { 0 < length buf.old }
     requires within { IsIn buf.old unread.old }
     ensures line { ReadsNext (λ line. line ≡ title_line) (T.state tray.old) (T.state tray.new)
-        (held_in buf.old unread.old) (held_in buf.new unread.new)
+        (stored_in buf.old unread.old) (stored_in buf.new unread.new)
         (found_line result title_line) }
     ensures within { IsIn buf.new unread.new }
 {
@@ -43,7 +43,7 @@ pub(crate) fn read_title<T: Tray>(
     match read_line(tray, buf, unread, &mut line) {
         Ok(true) => Ok(is_title(line.as_slice())),
         Ok(false) => Ok(false),
-        Err(Failed) => Err(Failed),
+        Err(DeviceError) => Err(DeviceError),
     }
 }
 
@@ -58,12 +58,12 @@ pub(crate) fn read_page<T: Tray>(
     tray: &mut T,
     buf: &mut [u8],
     unread: &mut Unread,
-) -> Result<Option<Head>, Failed>
+) -> Result<Option<Head>, DeviceError>
     requires begun { IsTrue (T.state tray.old).begun }
-    requires room { 0 < length buf.old }
+    requires workspace { 0 < length buf.old }
     requires within { IsIn buf.old unread.old }
     ensures line { ReadsNext IsPageLine (T.state tray.old) (T.state tray.new)
-        (held_in buf.old unread.old) (held_in buf.new unread.new) (found_page result) }
+        (stored_in buf.old unread.old) (stored_in buf.new unread.new) (found_page result) }
     ensures range { IfOk result (λ page. IfSome page (λ head. IsHead (head_in head))) }
     ensures within { IsIn buf.new unread.new }
 {
@@ -71,7 +71,7 @@ pub(crate) fn read_page<T: Tray>(
     match read_line(tray, buf, unread, &mut line) {
         Ok(true) => Ok(read_page_line(line.as_slice())),
         Ok(false) => Ok(None),
-        Err(Failed) => Err(Failed),
+        Err(DeviceError) => Err(DeviceError),
     }
 }
 
@@ -83,14 +83,14 @@ pub(crate) fn read_next<T: Tray>(
     head: Head,
     place: Place,
     numbers: &mut [u32],
-) -> Result<Next, Failed>
+) -> Result<Next, DeviceError>
     requires begun { IsTrue (T.state tray.old).begun }
-    requires room { 0 < length buf.old }
+    requires workspace { 0 < length buf.old }
     requires within { IsIn buf.old unread.old }
     requires head { IsHead (head_in head) }
     requires many { length numbers.old ≡ head.plates + 3 }
     ensures line { ReadsNext (MayCome (head_in head) place) (T.state tray.old) (T.state tray.new)
-        (held_in buf.old unread.old) (held_in buf.new unread.new)
+        (stored_in buf.old unread.old) (stored_in buf.new unread.new)
         (found_next result numbers.new) }
     ensures run { IfOk result (λ next. next ≡ Next.Run → IsRun (head_in head) (run_in numbers.new)
         × IsAfter place (run_in numbers.new)) }
@@ -100,7 +100,7 @@ pub(crate) fn read_next<T: Tray>(
     match read_line(tray, buf, unread, &mut line) {
         Ok(true) => Ok(next_in(line.as_slice(), head, place, numbers)),
         Ok(false) => Ok(Next::Bad),
-        Err(Failed) => Err(Failed),
+        Err(DeviceError) => Err(DeviceError),
     }
 }
 

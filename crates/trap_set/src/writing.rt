@@ -9,22 +9,26 @@ ghost use Rattle.trap_set.specs.Rows.{row_text, rows_text, run_text};
 ghost use Rattle.trap_set.specs.Runs.{ArePair, run_at, tint_at};
 ghost use Rattle.trap_set.specs.SetText.{head_of, number, page_line, run_line, title_line};
 
-use crate::holding::{Held, put, put_number};
+use crate::holding::{Stored, put, put_number};
 use crate::samples::{begins_at, run_length, skip_same, tint_of};
 use outside::rack::Rack;
-use outside::tray::Failed;
+use outside::tray::DeviceError;
 use page_model::parts::PlaneList;
 
 /// Appends a space and a number, for each of these numbers.
-fn put_numbers<R: Rack>(rack: &mut R, held: &mut Held, numbers: &[u32]) -> Result<(), Failed>
+fn put_numbers<R: Rack>(
+    rack: &mut R,
+    stored: &mut Stored,
+    numbers: &[u32],
+) -> Result<(), DeviceError>
     requires { IsTrue (R.state rack.old).is_open }
     ensures { Puts (flat_map number numbers.now)
-        held.old.items held.new.items (R.state rack.old) (R.state rack.new) result }
+        stored.old.items stored.new.items (R.state rack.old) (R.state rack.new) result }
 {
     for n in numbers {
-        match put_number(rack, held, *n) {
+        match put_number(rack, stored, *n) {
             Ok(()) => {}
-            Err(Failed) => return Err(Failed),
+            Err(DeviceError) => return Err(DeviceError),
         }
     }
     Ok(())
@@ -33,23 +37,23 @@ fn put_numbers<R: Rack>(rack: &mut R, held: &mut Held, numbers: &[u32]) -> Resul
 /// Appends a sample's tints.
 fn put_tints<R: Rack>(
     rack: &mut R,
-    held: &mut Held,
+    stored: &mut Stored,
     planes: &PlaneList,
     x: u32,
     y: u32,
-) -> Result<(), Failed>
+) -> Result<(), DeviceError>
     requires is_open { IsTrue (R.state rack.old).is_open }
     requires shape { AreOneShape planes.now }
     requires column { x < wide planes.now }
     requires row { y < tall planes.now }
     ensures { Puts (flat_map number (list_below
         (λ c. tint_at planes.now c x y) (length planes.now)))
-        held.old.items held.new.items (R.state rack.old) (R.state rack.new) result }
+        stored.old.items stored.new.items (R.state rack.old) (R.state rack.new) result }
 {
     for c in 0..planes.len() as u32 {
-        match put_number(rack, held, u32::from(tint_of(planes, c, x, y))) {
+        match put_number(rack, stored, u32::from(tint_of(planes, c, x, y))) {
             Ok(()) => {}
-            Err(Failed) => return Err(Failed),
+            Err(DeviceError) => return Err(DeviceError),
         }
     }
     Ok(())
@@ -58,87 +62,87 @@ fn put_tints<R: Rack>(
 /// Appends the first words of a run's line: its row, its column, and its number of samples.
 fn put_place<R: Rack>(
     rack: &mut R,
-    held: &mut Held,
+    stored: &mut Stored,
     x: u32,
     y: u32,
     count: u32,
-) -> Result<(), Failed>
+) -> Result<(), DeviceError>
     requires { IsTrue (R.state rack.old).is_open }
     ensures { Puts (codes "run" ++ flat_map number (y ∷ x ∷ count ∷ []))
-        held.old.items held.new.items (R.state rack.old) (R.state rack.new) result }
+        stored.old.items stored.new.items (R.state rack.old) (R.state rack.new) result }
 {
-    match put(rack, held, b"run") {
-        Ok(()) => put_numbers(rack, held, &[y, x, count]),
-        Err(Failed) => Err(Failed),
+    match put(rack, stored, b"run") {
+        Ok(()) => put_numbers(rack, stored, &[y, x, count]),
+        Err(DeviceError) => Err(DeviceError),
     }
 }
 
 /// Appends a sample's tints and the end of the line.
 fn put_last_tints<R: Rack>(
     rack: &mut R,
-    held: &mut Held,
+    stored: &mut Stored,
     planes: &PlaneList,
     x: u32,
     y: u32,
-) -> Result<(), Failed>
+) -> Result<(), DeviceError>
     requires is_open { IsTrue (R.state rack.old).is_open }
     requires shape { AreOneShape planes.now }
     requires column { x < wide planes.now }
     requires row { y < tall planes.now }
     ensures { Puts (flat_map number (list_below (λ c. tint_at planes.now c x y) (length planes.now))
-        ++ 10 ∷ []) held.old.items held.new.items (R.state rack.old) (R.state rack.new) result }
+        ++ 10 ∷ []) stored.old.items stored.new.items (R.state rack.old) (R.state rack.new) result }
 {
-    match put_tints(rack, held, planes, x, y) {
-        Ok(()) => put(rack, held, b"\n"),
-        Err(Failed) => Err(Failed),
+    match put_tints(rack, stored, planes, x, y) {
+        Ok(()) => put(rack, stored, b"\n"),
+        Err(DeviceError) => Err(DeviceError),
     }
 }
 
 /// Appends the line of the run that begins at a sample.
 fn put_run<R: Rack>(
     rack: &mut R,
-    held: &mut Held,
+    stored: &mut Stored,
     old: &PlaneList,
     new: &PlaneList,
     x: u32,
     y: u32,
     width: u32,
-) -> Result<(), Failed>
+) -> Result<(), DeviceError>
     requires is_open { IsTrue (R.state rack.old).is_open }
     requires pair { ArePair old.now new.now }
     requires width { width ≡ wide old.now }
     requires column { x < width }
     requires row { y < tall old.now }
     ensures { Puts (run_line (run_at old.now new.now x y))
-        held.old.items held.new.items (R.state rack.old) (R.state rack.new) result }
+        stored.old.items stored.new.items (R.state rack.old) (R.state rack.new) result }
 {
     let count = run_length(old, new, x, y, width);
-    match put_place(rack, held, x, y, count) {
-        Ok(()) => put_last_tints(rack, held, new, x, y),
-        Err(Failed) => Err(Failed),
+    match put_place(rack, stored, x, y, count) {
+        Ok(()) => put_last_tints(rack, stored, new, x, y),
+        Err(DeviceError) => Err(DeviceError),
     }
 }
 
 /// Appends the line of the run that begins at a sample, if one does.
 fn put_sample<R: Rack>(
     rack: &mut R,
-    held: &mut Held,
+    stored: &mut Stored,
     old: &PlaneList,
     new: &PlaneList,
     x: u32,
     y: u32,
     width: u32,
-) -> Result<(), Failed>
+) -> Result<(), DeviceError>
     requires is_open { IsTrue (R.state rack.old).is_open }
     requires pair { ArePair old.now new.now }
     requires width { width ≡ wide old.now }
     requires column { x < width }
     requires row { y < tall old.now }
     ensures { Puts (run_text old.now new.now y x)
-        held.old.items held.new.items (R.state rack.old) (R.state rack.new) result }
+        stored.old.items stored.new.items (R.state rack.old) (R.state rack.new) result }
 {
     if begins_at(old, new, x, y) {
-        return put_run(rack, held, old, new, x, y, width);
+        return put_run(rack, stored, old, new, x, y, width);
     }
     Ok(())
 }
@@ -146,18 +150,18 @@ fn put_sample<R: Rack>(
 /// Appends the lines of the runs of a row. Spans in which nothing changes are skipped.
 fn put_row<R: Rack>(
     rack: &mut R,
-    held: &mut Held,
+    stored: &mut Stored,
     old: &PlaneList,
     new: &PlaneList,
     y: u32,
     width: u32,
-) -> Result<(), Failed>
+) -> Result<(), DeviceError>
     requires is_open { IsTrue (R.state rack.old).is_open }
     requires pair { ArePair old.now new.now }
     requires width { width ≡ wide old.now }
     requires row { y < tall old.now }
     ensures { Puts (row_text old.now new.now y (wide old.now))
-        held.old.items held.new.items (R.state rack.old) (R.state rack.new) result }
+        stored.old.items stored.new.items (R.state rack.old) (R.state rack.new) result }
 {
     let mut x = 0;
     while x < width {
@@ -165,9 +169,9 @@ fn put_row<R: Rack>(
         if x < next {
             x = next;
         } else {
-            match put_sample(rack, held, old, new, x, y, width) {
+            match put_sample(rack, stored, old, new, x, y, width) {
                 Ok(()) => x += 1,
-                Err(Failed) => return Err(Failed),
+                Err(DeviceError) => return Err(DeviceError),
             }
         }
     }
@@ -177,23 +181,23 @@ fn put_row<R: Rack>(
 /// Appends the lines of all runs.
 pub(crate) fn put_rows<R: Rack>(
     rack: &mut R,
-    held: &mut Held,
+    stored: &mut Stored,
     old: &PlaneList,
     new: &PlaneList,
     width: u32,
     height: u32,
-) -> Result<(), Failed>
+) -> Result<(), DeviceError>
     requires is_open { IsTrue (R.state rack.old).is_open }
     requires pair { ArePair old.now new.now }
     requires width { width ≡ wide old.now }
     requires height { height ≡ tall old.now }
     ensures { Puts (rows_text old.now new.now (tall old.now))
-        held.old.items held.new.items (R.state rack.old) (R.state rack.new) result }
+        stored.old.items stored.new.items (R.state rack.old) (R.state rack.new) result }
 {
     for y in 0..height {
-        match put_row(rack, held, old, new, y, width) {
+        match put_row(rack, stored, old, new, y, width) {
             Ok(()) => {}
-            Err(Failed) => return Err(Failed),
+            Err(DeviceError) => return Err(DeviceError),
         }
     }
     Ok(())
@@ -202,60 +206,60 @@ pub(crate) fn put_rows<R: Rack>(
 /// Appends the first line, and the sides and the maxval of the second.
 fn put_sides<R: Rack>(
     rack: &mut R,
-    held: &mut Held,
+    stored: &mut Stored,
     width: u32,
     height: u32,
     maxval: u32,
-) -> Result<(), Failed>
+) -> Result<(), DeviceError>
     requires { IsTrue (R.state rack.old).is_open }
     ensures { Puts ((title_line ++ codes "page") ++ flat_map number (width ∷ height ∷ maxval ∷ []))
-        held.old.items held.new.items (R.state rack.old) (R.state rack.new) result }
+        stored.old.items stored.new.items (R.state rack.old) (R.state rack.new) result }
 {
-    match put(rack, held, b"trap set\npage") {
-        Ok(()) => put_numbers(rack, held, &[width, height, maxval]),
-        Err(Failed) => Err(Failed),
+    match put(rack, stored, b"trap set\npage") {
+        Ok(()) => put_numbers(rack, stored, &[width, height, maxval]),
+        Err(DeviceError) => Err(DeviceError),
     }
 }
 
 /// Appends the number of planes.
-fn put_count<R: Rack>(rack: &mut R, held: &mut Held, plates: u32) -> Result<(), Failed>
+fn put_count<R: Rack>(rack: &mut R, stored: &mut Stored, plates: u32) -> Result<(), DeviceError>
     requires { IsTrue (R.state rack.old).is_open }
     ensures { Puts (codes " plates" ++ number plates)
-        held.old.items held.new.items (R.state rack.old) (R.state rack.new) result }
+        stored.old.items stored.new.items (R.state rack.old) (R.state rack.new) result }
 {
-    match put(rack, held, b" plates") {
-        Ok(()) => put_number(rack, held, plates),
-        Err(Failed) => Err(Failed),
+    match put(rack, stored, b" plates") {
+        Ok(()) => put_number(rack, stored, plates),
+        Err(DeviceError) => Err(DeviceError),
     }
 }
 
 /// Appends the number of planes, and the end of the line.
-fn put_plates<R: Rack>(rack: &mut R, held: &mut Held, plates: u32) -> Result<(), Failed>
+fn put_plates<R: Rack>(rack: &mut R, stored: &mut Stored, plates: u32) -> Result<(), DeviceError>
     requires { IsTrue (R.state rack.old).is_open }
     ensures { Puts ((codes " plates" ++ number plates) ++ 10 ∷ [])
-        held.old.items held.new.items (R.state rack.old) (R.state rack.new) result }
+        stored.old.items stored.new.items (R.state rack.old) (R.state rack.new) result }
 {
-    match put_count(rack, held, plates) {
-        Ok(()) => put(rack, held, b"\n"),
-        Err(Failed) => Err(Failed),
+    match put_count(rack, stored, plates) {
+        Ok(()) => put(rack, stored, b"\n"),
+        Err(DeviceError) => Err(DeviceError),
     }
 }
 
 /// Appends the first two lines.
 pub(crate) fn put_head<R: Rack>(
     rack: &mut R,
-    held: &mut Held,
+    stored: &mut Stored,
     planes: &PlaneList,
-) -> Result<(), Failed>
+) -> Result<(), DeviceError>
     requires is_open { IsTrue (R.state rack.old).is_open }
     requires shape { AreOneShape planes.now }
     ensures { Puts (title_line ++ page_line (head_of planes.now))
-        held.old.items held.new.items (R.state rack.old) (R.state rack.new) result }
+        stored.old.items stored.new.items (R.state rack.old) (R.state rack.new) result }
 {
     let first = &planes.as_slice()[0];
     let plates = planes.len() as u32;
-    match put_sides(rack, held, first.width, first.height, first.maxval) {
-        Ok(()) => put_plates(rack, held, plates),
-        Err(Failed) => Err(Failed),
+    match put_sides(rack, stored, first.width, first.height, first.maxval) {
+        Ok(()) => put_plates(rack, stored, plates),
+        Err(DeviceError) => Err(DeviceError),
     }
 }

@@ -55,7 +55,7 @@ struct Case<'a> {
     failing: Option<(usize, u64)>,
     tray_fails: Option<u64>,
     rack_fails: Option<u64>,
-    room: u64,
+    workspace: u64,
 }
 
 const USUAL: Case<'static> = Case {
@@ -65,7 +65,7 @@ const USUAL: Case<'static> = Case {
     failing: None,
     tray_fails: None,
     rack_fails: None,
-    room: 10000,
+    workspace: 10000,
 };
 
 // What is looked at where a run has ended.
@@ -76,7 +76,7 @@ enum Look<'a> {
     // These plates and this report were written, and nothing is printed.
     Written(&'a [&'a [u8]], &'a [u8]),
     // This is printed.
-    Told(&'a str),
+    Reported(&'a str),
     // This is printed, and the first plate was not created.
     Unwritten(&'a str),
     // Of the files of the usual case all stand there before this one, this many bytes of it, and no later one; and this
@@ -163,7 +163,7 @@ fn end_on_rack<H: Abort + Threads + Sync, G: Gate + Sync>(
     gate: &G,
     look: Look<'_>,
 ) -> (u8, bool) {
-    let mut rack = rack_of(alloc, 50, case.room, case.rack_fails).expect(rt, "no memory");
+    let mut rack = rack_of(alloc, 50, case.workspace, case.rack_fails).expect(rt, "no memory");
     end_of_call(rt, alloc, words, tray, &mut rack, gate, look)
 }
 
@@ -216,7 +216,7 @@ fn looks(rack: &MemRack, look: Look<'_>) -> bool {
     match look {
         Look::Refused(text) => tells(rack, text) && is_empty(rack),
         Look::Written(plates, report) => tells(rack, "") && holds(rack, plates, report),
-        Look::Told(text) => tells(rack, text),
+        Look::Reported(text) => tells(rack, text),
         Look::Unwritten(text) => tells(rack, text) && has(rack, "out0", None),
         Look::UpTo(broken, count, text) => tells(rack, text) && holds_up_to(rack, broken, count),
         Look::Broken => is_broken(rack),
@@ -225,7 +225,7 @@ fn looks(rack: &MemRack, look: Look<'_>) -> bool {
 }
 
 fn tells(rack: &MemRack, text: &str) -> bool {
-    rack.told() == text.as_bytes()
+    rack.reported() == text.as_bytes()
 }
 
 fn has(rack: &MemRack, name: &str, wanted: Option<&[u8]>) -> bool {

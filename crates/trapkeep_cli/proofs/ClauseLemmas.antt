@@ -2,26 +2,26 @@
 use Rattle.std.proofs.Common.{◌≡◌, ◌≢◌, ◌⊎◌, ℕ, ◌≤◌, List, length, Option, Some, None, Result, Ok, Err, IsTrue, inl, inr, refl, sym, ap, ◌∙◌, subst, arith}
 use Rattle.keep_pages.proofs.PlaneLemmas.{locality as page_locality}
 use Rattle.keep_words.specs.Words.{KeepWords, keep_of}
-use Rattle.outside.specs.Causes.{Rose, RoseOnce, Asks, AsksPrefix}
+use Rattle.outside.specs.ErrorCases.{Rose, RoseOnce, Asks, AsksPrefix}
 use Rattle.outside.specs.Tray.{TrayState}
 use Rattle.outside.specs.Rack.{RackState, KeepsRack}
 use Rattle.page_files.specs.Inputs.{one_page}
-use Rattle.page_files.proofs.Told.{breaks_cause, file_breaks, line_after}
+use Rattle.page_files.proofs.Reported.{breaks_error, file_breaks, line_after}
 use Rattle.page_files.specs.Files.{Written}
-use Rattle.trapkeep_cli.specs.declared.cause.KeepError.{KeepError}
-use Rattle.trapkeep_cli.specs.declared.cause.KeepError.TheVariants as causes
-use Rattle.trapkeep_cli.specs.Causes.{RefusesCause, cause_line, cause_status}
+use Rattle.trapkeep_cli.specs.declared.reason.TrapkeepError.{TrapkeepError}
+use Rattle.trapkeep_cli.specs.declared.reason.TrapkeepError.TheVariants as errors
+use Rattle.trapkeep_cli.specs.ErrorCases.{RefusesError, error_line, error_status}
 use Rattle.trapkeep_cli.specs.Clauses.{Mean, Success, Usage, RefusesInput, RefusedInput, ReadFault, WriteFault, LeavesFiles, FaultLine, Locality, Completeness}
 use Rattle.trapkeep_cli.specs.Commands.{written_names, written_plates}
 use Rattle.trapkeep_cli.specs.Endings.{BreaksOff, CarriesOut, Closes, Ends, EndsCommand, IsDone, IsOfInput, NotRead, NotWritten, Passes, names_to}
 use Rattle.trapkeep_cli.specs.Verdicts.{IsVerdict, Refused, Out}
-use Rattle.trapkeep_cli.proofs.OneVerdict.{one_cause, out_or_refused}
-use Rattle.refusals.specs.declared.refusal.Refusal.TheVariants as refusals
-use Rattle.refusals.specs.Telling.{KeepsFiles, TellsText, TellsAfterFault}
+use Rattle.trapkeep_cli.proofs.OneVerdict.{one_error, out_or_refused}
+use Rattle.common_errors.specs.declared.common.CommonError.TheVariants as reasons
+use Rattle.common_errors.specs.Telling.{KeepsFiles, TellsText, TellsAfterFault}
 use Rattle.page_files.proofs.VerdictLemmas.{PlateLaws}
 
-not_written_then : (keep : KeepWords) (t t' : TrayState) (a b c : RackState) (cause : KeepError) → KeepsRack a b → NotWritten keep t t' a b cause → KeepsFiles b c → NotWritten keep t t' a c cause
-not_written_then keep t t' a b c cause keeps broke files = record {
+not_written_then : (keep : KeepWords) (t t' : TrayState) (a b c : RackState) (reason : TrapkeepError) → KeepsRack a b → NotWritten keep t t' a b reason → KeepsFiles b c → NotWritten keep t t' a c reason
+not_written_then keep t t' a b c reason keeps broke files = record {
   calm = broke.calm;
   begun = broke.begun;
   written = broke.written;
@@ -33,106 +33,106 @@ not_written_then keep t t' a b c cause keeps broke files = record {
 
 -- How a command ended.
 data Ending (keep : KeepWords) (t t' : TrayState) (r r' : RackState) (status : ℕ) : Type 0 where
-  done : status ≡ 0 → (IsTrue r.tells → r'.told ≡ r.told) → IsDone keep t t' r r' → Ending keep t t' r r' status
-  refused : (cause : KeepError) → IsOfInput cause → Passes cause t t' → Asks t.asked t'.asked (names_to keep cause) → (IsTrue t.tells → IsVerdict t.file keep (Refused cause)) → RefusesCause cause r r' status → Ending keep t t' r r' status
-  unread : (cause : KeepError) → cause_status cause ≡ 5 → Rose t.faults t'.faults → Asks t.asked t'.asked (names_to keep cause) → BreaksOff keep cause t t' → RefusesCause cause r r' status → Ending keep t t' r r' status
-  unwritten : (cause : KeepError) → cause_status cause ≡ 6 → status ≡ cause_status cause → NotWritten keep t t' r r' cause → TellsAfterFault (cause_line cause) r r' → Ending keep t t' r r' status
-  no_memory : t'.faults ≡ t.faults → RefusesCause (causes.Page refusals.Memory) r r' status → Ending keep t t' r r' status
+  done : status ≡ 0 → (IsTrue r.tells → r'.reported ≡ r.reported) → IsDone keep t t' r r' → Ending keep t t' r r' status
+  refused : (reason : TrapkeepError) → IsOfInput reason → Passes reason t t' → Asks t.asked t'.asked (names_to keep reason) → (IsTrue t.tells → IsVerdict t.file keep (Refused reason)) → RefusesError reason r r' status → Ending keep t t' r r' status
+  unread : (reason : TrapkeepError) → error_status reason ≡ 5 → Rose t.faults t'.faults → Asks t.asked t'.asked (names_to keep reason) → BreaksOff keep reason t t' → RefusesError reason r r' status → Ending keep t t' r r' status
+  unwritten : (reason : TrapkeepError) → error_status reason ≡ 6 → status ≡ error_status reason → NotWritten keep t t' r r' reason → TellsAfterFault (error_line reason) r r' → Ending keep t t' r r' status
+  no_memory : t'.faults ≡ t.faults → RefusesError (errors.Page reasons.Memory) r r' status → Ending keep t t' r r' status
 
 module _ (keep : KeepWords) (t t' : TrayState) (r r' : RackState) (status : ℕ) where
-  not_read : (cause : KeepError) → NotRead keep t t' cause → RefusesCause cause r r' status → Ending keep t t' r r' status
-  not_read cause (NotRead.refused input passes asks verdict) closed = refused cause input passes asks verdict closed
-  not_read cause (NotRead.unread is rose asks breaks) closed = unread cause is rose asks breaks closed
-  not_read cause (NotRead.no_memory is calm) closed = no_memory calm (subst (λ (c : KeepError). RefusesCause c r r' status) is closed)
+  not_read : (reason : TrapkeepError) → NotRead keep t t' reason → RefusesError reason r r' status → Ending keep t t' r r' status
+  not_read reason (NotRead.refused input passes asks verdict) closed = refused reason input passes asks verdict closed
+  not_read reason (NotRead.unread is rose asks breaks) closed = unread reason is rose asks breaks closed
+  not_read reason (NotRead.no_memory is calm) closed = no_memory calm (subst (λ (c : TrapkeepError). RefusesError c r r' status) is closed)
 
-  not_done : (cause : KeepError) (between : RackState) → KeepsRack r between → (IsTrue r.tells → between.told ≡ r.told) → (NotRead keep t t' cause × (between ≡ r)) ⊎ (NotWritten keep t t' r between cause × RoseOnce r.faults between.faults) → RefusesCause cause between r' status → Ending keep t t' r r' status
-  not_done cause between keeps told (inl none) closed = not_read cause none.0 (subst (λ (s : RackState). RefusesCause cause s r' status) none.1 closed)
-  not_done cause between keeps told (inr (broke, once)) closed =
-      unwritten cause (ap cause_status broke.is) closed.status_is (not_written_then keep t t' r between r' cause keeps broke closed.files) (line_after (cause_line cause) r between r' told keeps.tells once closed.line)
+  not_done : (reason : TrapkeepError) (between : RackState) → KeepsRack r between → (IsTrue r.tells → between.reported ≡ r.reported) → (NotRead keep t t' reason × (between ≡ r)) ⊎ (NotWritten keep t t' r between reason × RoseOnce r.faults between.faults) → RefusesError reason between r' status → Ending keep t t' r r' status
+  not_done reason between keeps reported (inl none) closed = not_read reason none.0 (subst (λ (s : RackState). RefusesError reason s r' status) none.1 closed)
+  not_done reason between keeps reported (inr (broke, once)) closed =
+      unwritten reason (ap error_status broke.is) closed.status_is (not_written_then keep t t' r between r' reason keeps broke closed.files) (line_after (error_line reason) r between r' reported keeps.tells once closed.line)
 
-  ending_of : (result : Result (Unit {0}) KeepError) (between : RackState) → CarriesOut keep t t' r between result → Closes result between r' status → Ending keep t t' r r' status
-  ending_of (Ok nothing) between carried closed = subst (λ (s : RackState). Ending keep t t' r s status) (sym closed.0) (done closed.1 carried.told carried.answer)
-  ending_of (Err cause) between carried closed = not_done cause between carried.rack_keeps carried.told carried.answer closed
+  ending_of : (result : Result (Unit {0}) TrapkeepError) (between : RackState) → CarriesOut keep t t' r between result → Closes result between r' status → Ending keep t t' r r' status
+  ending_of (Ok nothing) between carried closed = subst (λ (s : RackState). Ending keep t t' r s status) (sym closed.0) (done closed.1 carried.reported carried.answer)
+  ending_of (Err reason) between carried closed = not_done reason between carried.rack_keeps carried.reported carried.answer closed
 
   ending : EndsCommand keep t t' r r' status → Ending keep t t' r r' status
   ending ended = ending_of ended.result ended.between ended.carried ended.closed
 
-  done_by : Ending keep t t' r r' status → status ≡ 0 → (IsTrue r.tells → r'.told ≡ r.told) × IsDone keep t t' r r'
-  done_by (done is told work) s = (told, work)
-  done_by (refused cause input passes asks verdict closed) s = absurd (elim input [ inl a ↦ omega (arith, closed.status_is) | inr a ↦ omega (arith, closed.status_is) ])
-  done_by (unread cause is rose asks breaks closed) s = absurd (omega (arith, closed.status_is))
-  done_by (unwritten cause is so broke line) s = absurd (omega arith)
+  done_by : Ending keep t t' r r' status → status ≡ 0 → (IsTrue r.tells → r'.reported ≡ r.reported) × IsDone keep t t' r r'
+  done_by (done is reported work) s = (reported, work)
+  done_by (refused reason input passes asks verdict closed) s = absurd (elim input [ inl a ↦ omega (arith, closed.status_is) | inr a ↦ omega (arith, closed.status_is) ])
+  done_by (unread reason is rose asks breaks closed) s = absurd (omega (arith, closed.status_is))
+  done_by (unwritten reason is so broke line) s = absurd (omega arith)
   done_by (no_memory calm closed) s = absurd (omega (arith, closed.status_is))
 
   -- the input is refused, with one of its statuses
-  refused_by : Ending keep t t' r r' status → (status ≡ 3) ⊎ (status ≡ 4) → (cause : KeepError) × RefusesInput keep t t' r r' status cause
-  refused_by (refused cause input passes asks verdict closed) s = (cause, record { status_is = closed.status_is; verdict = verdict; begun = asks; count = passes; line = closed.line })
-  refused_by (done is told work) s = absurd (elim s [ inl a ↦ omega arith | inr a ↦ omega arith ])
-  refused_by (unread cause is rose asks breaks closed) s = absurd (elim s [ inl a ↦ omega (arith, closed.status_is) | inr a ↦ omega (arith, closed.status_is) ])
-  refused_by (unwritten cause is so broke line) s = absurd (elim s [ inl a ↦ omega arith | inr a ↦ omega arith ])
+  refused_by : Ending keep t t' r r' status → (status ≡ 3) ⊎ (status ≡ 4) → (reason : TrapkeepError) × RefusesInput keep t t' r r' status reason
+  refused_by (refused reason input passes asks verdict closed) s = (reason, record { status_is = closed.status_is; verdict = verdict; begun = asks; count = passes; line = closed.line })
+  refused_by (done is reported work) s = absurd (elim s [ inl a ↦ omega arith | inr a ↦ omega arith ])
+  refused_by (unread reason is rose asks breaks closed) s = absurd (elim s [ inl a ↦ omega (arith, closed.status_is) | inr a ↦ omega (arith, closed.status_is) ])
+  refused_by (unwritten reason is so broke line) s = absurd (elim s [ inl a ↦ omega arith | inr a ↦ omega arith ])
   refused_by (no_memory calm closed) s = absurd (elim s [ inl a ↦ omega (arith, closed.status_is) | inr a ↦ omega (arith, closed.status_is) ])
 
-  unread_by : Ending keep t t' r r' status → status ≡ 5 → Rose t.faults t'.faults × ((cause : KeepError) × (status ≡ cause_status cause) × Asks t.asked t'.asked (names_to keep cause) × BreaksOff keep cause t t' × TellsText (cause_line cause) r r')
-  unread_by (unread cause is rose asks breaks closed) s = (rose, (cause, closed.status_is, asks, breaks, closed.line))
-  unread_by (done is told work) s = absurd (omega arith)
-  unread_by (refused cause input passes asks verdict closed) s = absurd (elim input [ inl a ↦ omega (arith, closed.status_is) | inr a ↦ omega (arith, closed.status_is) ])
-  unread_by (unwritten cause is so broke line) s = absurd (omega arith)
+  unread_by : Ending keep t t' r r' status → status ≡ 5 → Rose t.faults t'.faults × ((reason : TrapkeepError) × (status ≡ error_status reason) × Asks t.asked t'.asked (names_to keep reason) × BreaksOff keep reason t t' × TellsText (error_line reason) r r')
+  unread_by (unread reason is rose asks breaks closed) s = (rose, (reason, closed.status_is, asks, breaks, closed.line))
+  unread_by (done is reported work) s = absurd (omega arith)
+  unread_by (refused reason input passes asks verdict closed) s = absurd (elim input [ inl a ↦ omega (arith, closed.status_is) | inr a ↦ omega (arith, closed.status_is) ])
+  unread_by (unwritten reason is so broke line) s = absurd (omega arith)
   unread_by (no_memory calm closed) s = absurd (omega (arith, closed.status_is))
 
-  unwritten_by : Ending keep t t' r r' status → status ≡ 6 → (cause : KeepError) × NotWritten keep t t' r r' cause × TellsAfterFault (cause_line cause) r r'
-  unwritten_by (unwritten cause is so broke line) s = (cause, broke, line)
-  unwritten_by (done is told work) s = absurd (omega arith)
-  unwritten_by (refused cause input passes asks verdict closed) s = absurd (elim input [ inl a ↦ omega (arith, closed.status_is) | inr a ↦ omega (arith, closed.status_is) ])
-  unwritten_by (unread cause is rose asks breaks closed) s = absurd (omega (arith, closed.status_is))
+  unwritten_by : Ending keep t t' r r' status → status ≡ 6 → (reason : TrapkeepError) × NotWritten keep t t' r r' reason × TellsAfterFault (error_line reason) r r'
+  unwritten_by (unwritten reason is so broke line) s = (reason, broke, line)
+  unwritten_by (done is reported work) s = absurd (omega arith)
+  unwritten_by (refused reason input passes asks verdict closed) s = absurd (elim input [ inl a ↦ omega (arith, closed.status_is) | inr a ↦ omega (arith, closed.status_is) ])
+  unwritten_by (unread reason is rose asks breaks closed) s = absurd (omega (arith, closed.status_is))
   unwritten_by (no_memory calm closed) s = absurd (omega (arith, closed.status_is))
 
   -- neither 6 nor 7 is the status of a refused input
-  not_input : (cause : KeepError) → IsOfInput cause → status ≡ cause_status cause → (status ≡ 6) ⊎ (status ≡ 7) → ⊥
-  not_input cause input is (inl six) = elim input [ inl a ↦ omega (arith, is) | inr a ↦ omega (arith, is) ]
-  not_input cause input is (inr seven) = elim input [ inl a ↦ omega (arith, is) | inr a ↦ omega (arith, is) ]
+  not_input : (reason : TrapkeepError) → IsOfInput reason → status ≡ error_status reason → (status ≡ 6) ⊎ (status ≡ 7) → ⊥
+  not_input reason input is (inl six) = elim input [ inl a ↦ omega (arith, is) | inr a ↦ omega (arith, is) ]
+  not_input reason input is (inr seven) = elim input [ inl a ↦ omega (arith, is) | inr a ↦ omega (arith, is) ]
 
   calm_by : Ending keep t t' r r' status → (status ≡ 6) ⊎ (status ≡ 7) → t'.faults ≡ t.faults
   calm_by (no_memory calm closed) s = calm
-  calm_by (done is told work) s = work.calm
-  calm_by (refused cause input passes asks verdict closed) s = absurd (not_input cause input closed.status_is s)
-  calm_by (unread cause is rose asks breaks closed) (inl s) = absurd (omega (arith, closed.status_is))
-  calm_by (unread cause is rose asks breaks closed) (inr s) = absurd (omega (arith, closed.status_is))
-  calm_by (unwritten cause is so broke line) s = broke.calm
+  calm_by (done is reported work) s = work.calm
+  calm_by (refused reason input passes asks verdict closed) s = absurd (not_input reason input closed.status_is s)
+  calm_by (unread reason is rose asks breaks closed) (inl s) = absurd (omega (arith, closed.status_is))
+  calm_by (unread reason is rose asks breaks closed) (inr s) = absurd (omega (arith, closed.status_is))
+  calm_by (unwritten reason is so broke line) s = broke.calm
 
   -- a status that is neither 0 nor 6 leaves the files alone, and tells the line of its cause
-  closed_by : Ending keep t t' r r' status → status ≢ 0 → status ≢ 6 → (cause : KeepError) × RefusesCause cause r r' status
-  closed_by (done is told work) some other = absurd (some is)
-  closed_by (refused cause input passes asks verdict closed) some other = (cause, closed)
-  closed_by (unread cause is rose asks breaks closed) some other = (cause, closed)
-  closed_by (unwritten cause is so broke line) some other = absurd (other (so ∙ is))
-  closed_by (no_memory calm closed) some other = (causes.Page refusals.Memory, closed)
+  closed_by : Ending keep t t' r r' status → status ≢ 0 → status ≢ 6 → (reason : TrapkeepError) × RefusesError reason r r' status
+  closed_by (done is reported work) some other = absurd (some is)
+  closed_by (refused reason input passes asks verdict closed) some other = (reason, closed)
+  closed_by (unread reason is rose asks breaks closed) some other = (reason, closed)
+  closed_by (unwritten reason is so broke line) some other = absurd (other (so ∙ is))
+  closed_by (no_memory calm closed) some other = (errors.Page reasons.Memory, closed)
 
-  always_by : PlateLaws one_page → (cause : KeepError) → Ending keep t t' r r' status → IsTrue t.tells → IsVerdict t.file keep (Refused cause) → ¬ Rose t.faults t'.faults → (status ≡ cause_status cause) ⊎ (status ≡ 7)
-  always_by laws cause (done is told work) tells judged still = absurd (out_or_refused laws t.file keep work.written cause (work.to_write.1 tells) judged)
-  always_by laws cause (refused other input passes asks verdict closed) tells judged still = inl (closed.status_is ∙ ap cause_status (one_cause laws t.file keep other cause (verdict tells) judged))
-  always_by laws cause (unread other is rose asks breaks closed) tells judged still = absurd (still rose)
-  always_by laws cause (unwritten other is so broke line) tells judged still = absurd (out_or_refused laws t.file keep broke.written cause (broke.to_write.1 tells) judged)
-  always_by laws cause (no_memory calm closed) tells judged still = inr closed.status_is
+  always_by : PlateLaws one_page → (reason : TrapkeepError) → Ending keep t t' r r' status → IsTrue t.tells → IsVerdict t.file keep (Refused reason) → ¬ Rose t.faults t'.faults → (status ≡ error_status reason) ⊎ (status ≡ 7)
+  always_by laws reason (done is reported work) tells judged still = absurd (out_or_refused laws t.file keep work.written reason (work.to_write.1 tells) judged)
+  always_by laws reason (refused other input passes asks verdict closed) tells judged still = inl (closed.status_is ∙ ap error_status (one_error laws t.file keep other reason (verdict tells) judged))
+  always_by laws reason (unread other is rose asks breaks closed) tells judged still = absurd (still rose)
+  always_by laws reason (unwritten other is so broke line) tells judged still = absurd (out_or_refused laws t.file keep broke.written reason (broke.to_write.1 tells) judged)
+  always_by laws reason (no_memory calm closed) tells judged still = inr closed.status_is
 
   complete_by : PlateLaws one_page → (written : List Written) → Ending keep t t' r r' status → IsTrue t.tells → IsVerdict t.file keep (Out written) → ¬ Rose t.faults t'.faults → ¬ Rose r.faults r'.faults → (status ≡ 0) ⊎ (status ≡ 7)
-  complete_by laws written (done is told work) tells judged still_tray still = inl is
-  complete_by laws written (refused cause input passes asks verdict closed) tells judged still_tray still = absurd (out_or_refused laws t.file keep written cause judged (verdict tells))
-  complete_by laws written (unread cause is rose asks breaks closed) tells judged still_tray still = absurd (still_tray rose)
-  complete_by laws written (unwritten cause is so broke line) tells judged still_tray still = absurd (still (breaks_cause (length (written_plates keep)) broke.written broke.file r r' broke.breaks))
+  complete_by laws written (done is reported work) tells judged still_tray still = inl is
+  complete_by laws written (refused reason input passes asks verdict closed) tells judged still_tray still = absurd (out_or_refused laws t.file keep written reason judged (verdict tells))
+  complete_by laws written (unread reason is rose asks breaks closed) tells judged still_tray still = absurd (still_tray rose)
+  complete_by laws written (unwritten reason is so broke line) tells judged still_tray still = absurd (still (breaks_error (length (written_plates keep)) broke.written broke.file r r' broke.breaks))
   complete_by laws written (no_memory calm closed) tells judged still_tray still = inr closed.status_is
 
   -- no command ends with the status of words that are none
   status_by : Ending keep t t' r r' status → (status ≡ 0) ⊎ ((3 ≤ status) × (status ≤ 7))
-  status_by (done is told work) = inl is
-  status_by (refused cause input passes asks verdict closed) = inr (elim input [ inl a ↦ (omega (arith, closed.status_is), omega (arith, closed.status_is)) | inr a ↦ (omega (arith, closed.status_is), omega (arith, closed.status_is)) ])
-  status_by (unread cause is rose asks breaks closed) = inr (omega (arith, closed.status_is), omega (arith, closed.status_is))
-  status_by (unwritten cause is so broke line) = inr (omega arith, omega arith)
+  status_by (done is reported work) = inl is
+  status_by (refused reason input passes asks verdict closed) = inr (elim input [ inl a ↦ (omega (arith, closed.status_is), omega (arith, closed.status_is)) | inr a ↦ (omega (arith, closed.status_is), omega (arith, closed.status_is)) ])
+  status_by (unread reason is rose asks breaks closed) = inr (omega (arith, closed.status_is), omega (arith, closed.status_is))
+  status_by (unwritten reason is so broke line) = inr (omega arith, omega arith)
   status_by (no_memory calm closed) = inr (omega (arith, closed.status_is), omega (arith, closed.status_is))
 
   -- the names handed to `create`, after the line was told
-  created_by : (result : Result (Unit {0}) KeepError) (between : RackState) → CarriesOut keep t t' r between result → Closes result between r' status → AsksPrefix r.asked r'.asked (written_names keep)
+  created_by : (result : Result (Unit {0}) TrapkeepError) (between : RackState) → CarriesOut keep t t' r between result → Closes result between r' status → AsksPrefix r.asked r'.asked (written_names keep)
   created_by (Ok nothing) between carried closed = subst (λ (s : RackState). AsksPrefix r.asked s.asked (written_names keep)) (sym closed.0) carried.created
-  created_by (Err cause) between carried closed = subst (λ (names : Option (List (List ℕ))). AsksPrefix r.asked names (written_names keep)) (sym closed.files.asked) carried.created
+  created_by (Err reason) between carried closed = subst (λ (names : Option (List (List ℕ))). AsksPrefix r.asked names (written_names keep)) (sym closed.files.asked) carried.created
 
 module _ (words : List (List ℕ)) (t t' : TrayState) (r r' : RackState) (status : ℕ) where
   same_keep : (one two : KeepWords) → Mean words one → Mean words two → one ≡ two
@@ -148,7 +148,7 @@ module _ (words : List (List ℕ)) (t t' : TrayState) (r r' : RackState) (status
   keep_ending : (keep : KeepWords) → Mean words keep → Ends words t t' r r' status → Ending keep t t' r r' status
   keep_ending keep means ended = ending keep t t' r r' status (keep_ended keep means ended)
 
-  done_of : Ends words t t' r r' status → status ≡ 0 → (keep : KeepWords) × (IsTrue r.tells → r'.told ≡ r.told) × IsDone keep t t' r r'
+  done_of : Ends words t t' r r' status → status ≡ 0 → (keep : KeepWords) × (IsTrue r.tells → r'.reported ≡ r.reported) × IsDone keep t t' r r'
   done_of (Ends.no_command none same refuses) s = absurd (omega (arith, refuses.status_is))
   done_of (Ends.command keep also ended) s = (let by = done_by keep t t' r r' status (ending keep t t' r r' status ended) s in (keep, by.0, by.1))
 
@@ -169,7 +169,7 @@ module _ (words : List (List ℕ)) (t t' : TrayState) (r r' : RackState) (status
   usage_only (Ends.no_command none same refuses) s = none
   usage_only (Ends.command keep also ended) s = elim (status_by keep t t' r r' status (ending keep t t' r r' status ended)) [ inl is ↦ absurd (omega arith) | inr within ↦ absurd (omega (arith, within.0)) ]
 
-  usage_always : Ends words t t' r r' status → keep_of words ≡ None → RefusesCause causes.NoCommand r r' status × (t'.asked ≡ t.asked)
+  usage_always : Ends words t t' r r' status → keep_of words ≡ None → RefusesError errors.NoCommand r r' status × (t'.asked ≡ t.asked)
   usage_always (Ends.no_command none same refuses) nothing = (refuses, ap (λ (u : TrayState). u.asked) same)
   usage_always (Ends.command keep also ended) nothing = absurd (no_meaning keep also nothing)
 
@@ -185,12 +185,12 @@ module _ (words : List (List ℕ)) (t t' : TrayState) (r r' : RackState) (status
   pub refused_input : PlateLaws one_page → Ends words t t' r r' status → RefusedInput words t t' r r' status
   refused_input laws ended = record {
     only = λ keep means s. refused_by keep t t' r r' status (keep_ending keep means ended) s;
-    always = λ keep cause means tells judged still. always_by keep t t' r r' status laws cause (keep_ending keep means ended) tells judged still;
+    always = λ keep reason means tells judged still. always_by keep t t' r r' status laws reason (keep_ending keep means ended) tells judged still;
   }
 
-  read_cause : Ends words t t' r r' status → status ≡ 5 → Rose t.faults t'.faults
-  read_cause (Ends.no_command none same refuses) s = absurd (omega (arith, refuses.status_is))
-  read_cause (Ends.command keep also ended) s = (unread_by keep t t' r r' status (ending keep t t' r r' status ended) s).0
+  read_error : Ends words t t' r r' status → status ≡ 5 → Rose t.faults t'.faults
+  read_error (Ends.no_command none same refuses) s = absurd (omega (arith, refuses.status_is))
+  read_error (Ends.command keep also ended) s = (unread_by keep t t' r r' status (ending keep t t' r r' status ended) s).0
 
   all_calm : Ends words t t' r r' status → (status ≡ 6) ⊎ (status ≡ 7) → t'.faults ≡ t.faults
   all_calm (Ends.no_command none same refuses) s = ap (λ (u : TrayState). u.faults) same
@@ -198,33 +198,33 @@ module _ (words : List (List ℕ)) (t t' : TrayState) (r r' : RackState) (status
 
   pub read_fault : Ends words t t' r r' status → ReadFault words t t' r r' status
   read_fault ended = record {
-    cause = read_cause ended;
+    reason = read_error ended;
     breaks = λ keep means s. (unread_by keep t t' r r' status (keep_ending keep means ended) s).1;
     asked = λ keep means. (keep_ended keep means ended).carried.asked;
     in_hand = λ keep means. (keep_ended keep means ended).carried.in_hand;
     calm = all_calm ended;
   }
 
-  write_cause : Ends words t t' r r' status → status ≡ 6 → Rose r.faults r'.faults
-  write_cause (Ends.no_command none same refuses) s = absurd (omega (arith, refuses.status_is))
-  write_cause (Ends.command keep also ended) s =
+  write_error : Ends words t t' r r' status → status ≡ 6 → Rose r.faults r'.faults
+  write_error (Ends.no_command none same refuses) s = absurd (omega (arith, refuses.status_is))
+  write_error (Ends.command keep also ended) s =
       (let broke = (unwritten_by keep t t' r r' status (ending keep t t' r r' status ended) s).1 in
-      breaks_cause (length (written_plates keep)) broke.written broke.file r r' broke.breaks)
+      breaks_error (length (written_plates keep)) broke.written broke.file r r' broke.breaks)
 
   pub write_fault : Ends words t t' r r' status → WriteFault words t t' r r' status
   write_fault ended = record {
-    cause = write_cause ended;
+    reason = write_error ended;
     begun = λ keep means s. (unwritten_by keep t t' r r' status (keep_ending keep means ended) s).1.begun;
     breaks = λ keep means s.
         (let by = unwritten_by keep t t' r r' status (keep_ending keep means ended) s in
-        (by.1.file, (by.1.written, by.1.to_write, by.1.breaks), subst (λ (cause : KeepError). TellsAfterFault (cause_line cause) r r') by.1.is by.2));
+        (by.1.file, (by.1.written, by.1.to_write, by.1.breaks), subst (λ (reason : TrapkeepError). TellsAfterFault (error_line reason) r r') by.1.is by.2));
     asked = λ keep means.
         (let ends = keep_ended keep means ended in
         created_by keep t t' r r' status ends.result ends.between ends.carried ends.closed);
   }
 
-  closed_of : Ends words t t' r r' status → status ≢ 0 → status ≢ 6 → (cause : KeepError) × RefusesCause cause r r' status
-  closed_of (Ends.no_command none same refuses) some other = (causes.NoCommand, refuses)
+  closed_of : Ends words t t' r r' status → status ≢ 0 → status ≢ 6 → (reason : TrapkeepError) × RefusesError reason r r' status
+  closed_of (Ends.no_command none same refuses) some other = (errors.NoCommand, refuses)
   closed_of (Ends.command keep also ended) some other = closed_by keep t t' r r' status (ending keep t t' r r' status ended) some other
 
   pub leaves_files : Ends words t t' r r' status → LeavesFiles r r' status

@@ -5,7 +5,7 @@ use Rattle.std.specs.Prelude.{length}
 use Rattle.keep_words.specs.Words.{KeepWords, keep_of}
 use Rattle.keepaway.specs.declared.parts.RichBlack.{RichBlack}
 use Rattle.keepaway.specs.Laws.{Locality as PixelLocality}
-use Rattle.outside.specs.Causes.{Rose, Asks, AsksPrefix}
+use Rattle.outside.specs.ErrorCases.{Rose, Asks, AsksPrefix}
 use Rattle.outside.specs.Tray.{TrayState}
 use Rattle.outside.specs.Rack.{RackState}
 use Rattle.page_files.specs.Inputs.{Makes, one_page, read_files}
@@ -13,13 +13,13 @@ use Rattle.page_model.specs.declared.parts.At.{At}
 use Rattle.page_model.specs.declared.parts.PageParts.{PageParts}
 use Rattle.page_files.specs.Files.{Written, put_all}
 use Rattle.page_files.specs.Writing.{Breaks, FinishesAll}
-use Rattle.refusals.specs.declared.refusal.Refusal.TheVariants.{Write}
-use Rattle.refusals.specs.Statuses.{done, usage, job_refused, page_refused, not_read}
-use Rattle.refusals.specs.Statuses.{not_written, out_of_memory}
-use Rattle.refusals.specs.Telling.{TellsText, TellsAfterFault}
-use Rattle.trapkeep_cli.specs.declared.cause.KeepError.{KeepError}
-use Rattle.trapkeep_cli.specs.declared.cause.KeepError.TheVariants.{NoCommand, Page}
-use Rattle.trapkeep_cli.specs.Causes.{cause_line, cause_status}
+use Rattle.common_errors.specs.declared.common.CommonError.TheVariants.{Write}
+use Rattle.common_errors.specs.Statuses.{done, usage, job_refused, page_refused, not_read}
+use Rattle.common_errors.specs.Statuses.{not_written, out_of_memory}
+use Rattle.common_errors.specs.Telling.{TellsText, TellsAfterFault}
+use Rattle.trapkeep_cli.specs.declared.reason.TrapkeepError.{TrapkeepError}
+use Rattle.trapkeep_cli.specs.declared.reason.TrapkeepError.TheVariants.{NoCommand, Page}
+use Rattle.trapkeep_cli.specs.ErrorCases.{error_line, error_status}
 use Rattle.trapkeep_cli.specs.Commands.{IsRich, sources_of, written_names, written_plates}
 use Rattle.trapkeep_cli.specs.Endings.{BreaksOff, HasInHand, IsToWrite, Passes, names_to}
 use Rattle.trapkeep_cli.specs.Verdicts.{IsVerdict, Refused, Out}
@@ -38,7 +38,7 @@ pub record Success (words : List (List ℕ)) (tray tray' : TrayState) (rack rack
   pub files : (keep : KeepWords) → Mean words keep → status ≡ done → (written : List Written)
       × IsToWrite keep tray written × (IsTrue rack.tells
       → rack'.file ≡ put_all written rack.file)
-  pub silent : status ≡ done → IsTrue rack.tells → rack'.told ≡ rack.told
+  pub silent : status ≡ done → IsTrue rack.tells → rack'.reported ≡ rack.reported
   pub finished : (keep : KeepWords) → Mean words keep → status ≡ done
       → FinishesAll (written_names keep) rack rack'
   pub shut : status ≡ done → IsFalse rack'.is_open
@@ -53,7 +53,7 @@ pub record Usage (words : List (List ℕ)) (tray tray' : TrayState) (rack rack' 
     (status : ℕ) : Type 0 where
   pub only : status ≡ usage → keep_of words ≡ None
   pub always : keep_of words ≡ None → status ≡ usage
-  pub line : keep_of words ≡ None → TellsText (cause_line NoCommand) rack rack'
+  pub line : keep_of words ≡ None → TellsText (error_line NoCommand) rack rack'
   pub no_begin : keep_of words ≡ None → tray'.asked ≡ tray.asked
   pub no_create : keep_of words ≡ None → rack'.asked ≡ rack.asked
 
@@ -61,23 +61,23 @@ pub record Usage (words : List (List ℕ)) (tray tray' : TrayState) (rack rack' 
 -- handed to `begin`, none after that of the file that is refused, the line, and that no fault of
 -- the tray was passed over.
 pub record RefusesInput (keep : KeepWords) (tray tray' : TrayState) (rack rack' : RackState)
-    (status : ℕ) (cause : KeepError) : Type 0 where
-  pub status_is : status ≡ cause_status cause
-  pub verdict : IsTrue tray.tells → IsVerdict tray.file keep (Refused cause)
-  pub begun : Asks tray.asked tray'.asked (names_to keep cause)
-  pub count : Passes cause tray tray'
-  pub line : TellsText (cause_line cause) rack rack'
+    (status : ℕ) (reason : TrapkeepError) : Type 0 where
+  pub status_is : status ≡ error_status reason
+  pub verdict : IsTrue tray.tells → IsVerdict tray.file keep (Refused reason)
+  pub begun : Asks tray.asked tray'.asked (names_to keep reason)
+  pub count : Passes reason tray tray'
+  pub line : TellsText (error_line reason) rack rack'
 
 -- Status 3 and 4 come only where the verdict is a cause of that status; and where the verdict is a
 -- cause, and the tray's count did not rise, its status comes, or that of out of memory.
 pub record RefusedInput (words : List (List ℕ)) (tray tray' : TrayState) (rack rack' : RackState)
     (status : ℕ) : Type 0 where
   pub only : (keep : KeepWords) → Mean words keep → (status ≡ job_refused)
-      ⊎ (status ≡ page_refused) → (cause : KeepError)
-      × RefusesInput keep tray tray' rack rack' status cause
-  pub always : (keep : KeepWords) (cause : KeepError) → Mean words keep → IsTrue tray.tells
-      → IsVerdict tray.file keep (Refused cause) → ¬ Rose tray.faults tray'.faults
-      → (status ≡ cause_status cause) ⊎ (status ≡ out_of_memory)
+      ⊎ (status ≡ page_refused) → (reason : TrapkeepError)
+      × RefusesInput keep tray tray' rack rack' status reason
+  pub always : (keep : KeepWords) (reason : TrapkeepError) → Mean words keep → IsTrue tray.tells
+      → IsVerdict tray.file keep (Refused reason) → ¬ Rose tray.faults tray'.faults
+      → (status ≡ error_status reason) ⊎ (status ≡ out_of_memory)
 
 -- Status 5 comes only where the tray's count rose. The names handed to `begin` end with the one
 -- whose read failed, which the line names; what was read before it has no fault. At every status
@@ -85,10 +85,10 @@ pub record RefusedInput (words : List (List ℕ)) (tray tray' : TrayState) (rack
 -- owed; neither a failed write nor status 7 passes a fault over.
 pub record ReadFault (words : List (List ℕ)) (tray tray' : TrayState) (rack rack' : RackState)
     (status : ℕ) : Type 0 where
-  pub cause : status ≡ not_read → Rose tray.faults tray'.faults
-  pub breaks : (keep : KeepWords) → Mean words keep → status ≡ not_read → (cause : KeepError)
-      × (status ≡ cause_status cause) × Asks tray.asked tray'.asked (names_to keep cause)
-      × BreaksOff keep cause tray tray' × TellsText (cause_line cause) rack rack'
+  pub reason : status ≡ not_read → Rose tray.faults tray'.faults
+  pub breaks : (keep : KeepWords) → Mean words keep → status ≡ not_read → (reason : TrapkeepError)
+      × (status ≡ error_status reason) × Asks tray.asked tray'.asked (names_to keep reason)
+      × BreaksOff keep reason tray tray' × TellsText (error_line reason) rack rack'
   pub asked : (keep : KeepWords) → Mean words keep
       → AsksPrefix tray.asked tray'.asked (read_files (sources_of keep))
   pub in_hand : (keep : KeepWords) → Mean words keep → HasInHand keep tray tray'
@@ -101,13 +101,13 @@ pub record ReadFault (words : List (List ℕ)) (tray tray' : TrayState) (rack ra
 -- is whole unless a further call failed than the one of the write.
 pub record WriteFault (words : List (List ℕ)) (tray tray' : TrayState) (rack rack' : RackState)
     (status : ℕ) : Type 0 where
-  pub cause : status ≡ not_written → Rose rack.faults rack'.faults
+  pub reason : status ≡ not_written → Rose rack.faults rack'.faults
   pub begun : (keep : KeepWords) → Mean words keep → status ≡ not_written
       → Asks tray.asked tray'.asked (read_files (sources_of keep))
   pub breaks : (keep : KeepWords) → Mean words keep → status ≡ not_written → (file : Option ℕ)
       × ((written : List Written) × IsToWrite keep tray written
       × Breaks (length (written_plates keep)) written file rack rack')
-      × TellsAfterFault (cause_line (Page (Write file))) rack rack'
+      × TellsAfterFault (error_line (Page (Write file))) rack rack'
   pub asked : (keep : KeepWords) → Mean words keep
       → AsksPrefix rack.asked rack'.asked (written_names keep)
 
@@ -120,8 +120,8 @@ LeavesFiles rack rack' status = status ≢ done → status ≢ not_written → (
 -- Every status but 0 tells the line of a cause and nothing else; that of a failed write is the line
 -- of `write_fault`.
 abbrev pub FaultLine : RackState → RackState → ℕ → Type 0
-FaultLine rack rack' status = status ≢ done → status ≢ not_written → (cause : KeepError)
-    × (status ≡ cause_status cause) × TellsText (cause_line cause) rack rack'
+FaultLine rack rack' status = status ≢ done → status ≢ not_written → (reason : TrapkeepError)
+    × (status ≡ error_status reason) × TellsText (error_line reason) rack rack'
 
 -- Where the job and the plates make a page, no ink is gained on it, and a tint changes only at a
 -- pixel that is covered and open, to that of a pixel within the width that is not covered.

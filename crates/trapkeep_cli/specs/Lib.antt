@@ -1,4 +1,4 @@
-pub mod Causes
+pub mod ErrorCases
 pub mod Clauses
 pub mod Commands
 pub mod Endings

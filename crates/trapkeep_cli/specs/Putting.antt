@@ -3,7 +3,7 @@ use Rattle.std.specs.Prelude.{◌≡◌, ℕ, ◌*◌, ◌≤◌, All, IsTrue, L
 use Rattle.keep_pages.specs.KeptPages.{keep_report, kept_planes}
 use Rattle.keep_words.specs.Words.{KeepWords}
 use Rattle.keepaway.specs.declared.parts.RichBlack.{RichBlack}
-use Rattle.outside.specs.Causes.{AsksPrefix, RoseOnce}
+use Rattle.outside.specs.ErrorCases.{AsksPrefix, RoseOnce}
 use Rattle.outside.specs.Rack.{RackState, KeepsRack}
 use Rattle.page_model.specs.declared.parts.PageParts.{PageParts}
 use Rattle.page_model.specs.declared.parts.Plane.{Plane}
@@ -12,9 +12,9 @@ use Rattle.page_model.specs.Limits.{most_samples}
 use Rattle.page_model.specs.Page.{plates}
 use Rattle.page_files.specs.Files.{names_of}
 use Rattle.page_files.specs.Writing.{Breaks, WritesAll}
-use Rattle.refusals.specs.declared.refusal.Refusal.TheVariants.{Write, Memory}
-use Rattle.trapkeep_cli.specs.declared.cause.KeepError.{KeepError}
-use Rattle.trapkeep_cli.specs.declared.cause.KeepError.TheVariants.{Page, TooWide}
+use Rattle.common_errors.specs.declared.common.CommonError.TheVariants.{Write, Memory}
+use Rattle.trapkeep_cli.specs.declared.reason.TrapkeepError.{TrapkeepError}
+use Rattle.trapkeep_cli.specs.declared.reason.TrapkeepError.TheVariants.{Page, TooWide}
 use Rattle.trapkeep_cli.specs.Commands.{IsRich, IsWide, written_names, written_plates}
 use Rattle.trapkeep_cli.specs.Verdicts.{keep_files}
 
@@ -37,7 +37,7 @@ pub record IsKeptPage (words : KeepWords) (page : PageParts) (planes : List Plan
 
 -- What the answer says where a page is put out.
 abbrev pub AnswersPut : KeepWords → PageParts → RackState → RackState
-    → Result (Unit {0}) KeepError → Type 0
+    → Result (Unit {0}) TrapkeepError → Type 0
 AnswersPut words page before after (Ok nothing) = (rich : RichBlack) × IsKept words page rich
     × WritesAll (keep_files words page rich) before after
 AnswersPut words page before after (Err (Page (Write file))) = (rich : RichBlack)
@@ -50,9 +50,9 @@ AnswersPut words page before after (Err other) = ⊥
 
 -- A page's inks are drawn back, and its files are written.
 pub record PutsPage (words : KeepWords) (page : PageParts) (before after : RackState)
-    (result : Result (Unit {0}) KeepError) : Type 0 where
+    (result : Result (Unit {0}) TrapkeepError) : Type 0 where
   pub valid : IsPage page
   pub keeps : KeepsRack before after
-  pub told : IsTrue before.tells → after.told ≡ before.told
+  pub reported : IsTrue before.tells → after.reported ≡ before.reported
   pub asked : AsksPrefix before.asked after.asked (written_names words)
   pub answer : AnswersPut words page before after result

@@ -6,15 +6,15 @@ use Rattle.keepaway.specs.declared.parts.RichBlack.{RichBlack}
 use Rattle.page_files.specs.Inputs.{Makes, one_page}
 use Rattle.page_model.specs.declared.parts.PageParts.{PageParts}
 use Rattle.page_files.specs.Files.{Written, page_files}
-use Rattle.trapkeep_cli.specs.declared.cause.KeepError.{KeepError}
-use Rattle.trapkeep_cli.specs.declared.cause.KeepError.TheVariants.{NoCommand, Page, TooWide}
+use Rattle.trapkeep_cli.specs.declared.reason.TrapkeepError.{TrapkeepError}
+use Rattle.trapkeep_cli.specs.declared.reason.TrapkeepError.TheVariants.{NoCommand, Page, TooWide}
 use Rattle.trapkeep_cli.specs.Commands.{IsRich, IsWide, sources_of, written_plates}
 use Rattle.page_files.specs.Verdicts.{Targets, IsVerdict as IsPageVerdict, Refused as page_refused}
 
 -- what is to come
 pub data Verdict : Type 0 where
   -- the job, a plate, the page or the width is refused
-  Refused : KeepError → Verdict
+  Refused : TrapkeepError → Verdict
   -- these files are to be written, in this order
   Out : List Written → Verdict
 
@@ -30,8 +30,8 @@ keep_files words page rich = page_files (written_plates words) (kept_planes page
 -- The job is judged first, then each plate in order, then what they make, and at last the width.
 -- Where a file that this comes to is not there, there is no verdict.
 abbrev pub IsVerdict : (List ℕ → Option (List ℕ)) → KeepWords → Verdict → Type 0
-IsVerdict files words (Refused (Page refusal)) =
-    IsPageVerdict one_page files (sources_of words) no_files (page_refused refusal)
+IsVerdict files words (Refused (Page error)) =
+    IsPageVerdict one_page files (sources_of words) no_files (page_refused error)
 IsVerdict files words (Refused TooWide) = (page : PageParts)
     × Makes one_page files (sources_of words) (Ok page) × IsWide words page
 IsVerdict files words (Refused NoCommand) = ⊥

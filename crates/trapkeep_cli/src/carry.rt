@@ -1,19 +1,19 @@
 ghost use Rattle.std.specs.Prelude.{◌≡◌, length};
-ghost use Rattle.keep_words.specs.Held.{IsWithin, keep_in};
+ghost use Rattle.keep_words.specs.Stored.{IsWithin, keep_in};
 ghost use Rattle.page_files.specs.Gathering.{ReadsPage};
 ghost use Rattle.trapkeep_cli.specs.Commands.{sources_of};
 ghost use Rattle.trapkeep_cli.specs.Endings.{CarriesOut, EndsCommand};
 
-use crate::cause::{KeepError, refuse_by};
 use crate::page::put_page;
+use crate::reason::{TrapkeepError, refuse_by};
+use common_errors::common::CommonError;
+use common_errors::statuses::DONE;
 use keep_words::words::KeepArgs;
 use outside::rack::Rack;
 use outside::tray::Tray;
 use page_files::gather::gather;
 use page_model::page::Page;
 use plain_words::files::{plate_inputs, plate_names};
-use refusals::refusal::Refusal;
-use refusals::statuses::DONE;
 use std::alloc::Global;
 
 // Runs a command, and returns the status that the program exits with.
@@ -29,7 +29,7 @@ pub(crate) fn run_command<T: Tray, R: Rack>(
 {
     match carry_out(alloc, command, tray, rack) {
         Ok(()) => DONE,
-        Err(cause) => refuse_by(rack, &cause),
+        Err(reason) => refuse_by(rack, &reason),
     }
 }
 
@@ -39,19 +39,23 @@ fn carry_out<T: Tray, R: Rack>(
     command: &KeepArgs<'_>,
     tray: &mut T,
     rack: &mut R,
-) -> Result<(), KeepError>
+) -> Result<(), TrapkeepError>
     requires { IsWithin command.now }
     ensures { CarriesOut (keep_in command.now) (T.state tray.old) (T.state tray.new)
         (R.state rack.old) (R.state rack.new) result }
 {
     match read_page(alloc, command, tray) {
         Ok(page) => put_page(alloc, command, &page, rack),
-        Err(refusal) => Err(KeepError::Page(refusal)),
+        Err(error) => Err(TrapkeepError::Page(error)),
     }
 }
 
 // Reads the page of the command's job and plates.
-fn read_page<T: Tray>(alloc: Global, command: &KeepArgs<'_>, tray: &mut T) -> Result<Page, Refusal>
+fn read_page<T: Tray>(
+    alloc: Global,
+    command: &KeepArgs<'_>,
+    tray: &mut T,
+) -> Result<Page, CommonError>
     requires { IsWithin command.now }
     ensures { ReadsPage (sources_of (keep_in command.now)) (T.state tray.old)
         (T.state tray.new) result }
@@ -61,6 +65,6 @@ fn read_page<T: Tray>(alloc: Global, command: &KeepArgs<'_>, tray: &mut T) -> Re
         plate_inputs(alloc, command.plates),
     ) {
         (Ok(names), Ok(inputs)) => gather(alloc, tray, command.job, &names, inputs.as_slice()),
-        _ => Err(Refusal::Memory),
+        _ => Err(CommonError::Memory),
     }
 }

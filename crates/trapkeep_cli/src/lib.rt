@@ -2,6 +2,6 @@
 #![tactic(auto)]
 
 mod carry;
-mod cause;
 mod page;
+mod reason;
 pub mod top;

@@ -2,23 +2,23 @@
 
 ghost use Rattle.std.specs.Prelude.{◌≡◌, ◌≤◌, ◌<◌, ◌↔◌, IfOk, IsTrue, length, map};
 ghost use Rattle.page_model.specs.Page.{plates};
-ghost use Rattle.keep_words.specs.Held.{IsWithin, keep_in};
+ghost use Rattle.keep_words.specs.Stored.{IsWithin, keep_in};
 ghost use Rattle.keepaway.specs.Rows.{Reaches};
 ghost use Rattle.page_model.specs.Limits.{most_plates};
 ghost use Rattle.trapkeep_cli.specs.Commands.{IsRich, IsWide, written_plates};
 ghost use Rattle.trapkeep_cli.specs.Putting.{IsKeptPage, PutsPage};
 
-use crate::cause::KeepError;
+use crate::reason::TrapkeepError;
+use common_errors::common::CommonError;
 use keep_pages::laws::kept_planes_law;
 use keep_pages::{Kept, keep_page};
 use keep_words::words::{KeepArgs, spared_names};
 use keepaway::RichBlack;
 use outside::rack::Rack;
+use page_files::writing::write_page;
 use page_model::page::Page;
 use page_model::parts::OutOfMemory;
-use page_files::writing::write_page;
 use plain_words::files::plate_outputs;
-use refusals::refusal::Refusal;
 use std::alloc::Global;
 
 /// 128 pixels, twice in ten-thousandths of a point times the resolution.
@@ -65,7 +65,7 @@ fn write_kept<R: Rack>(
     kept: Kept,
     outputs: &[&str],
     rack: &mut R,
-) -> Result<(), KeepError>
+) -> Result<(), TrapkeepError>
     requires narrow { IsWide (keep_in command.now) page.now → ⊥ }
     requires kept { IsKeptPage (keep_in command.now) page.now kept.planes kept.report }
     requires outputs { map (λ file. file.now) outputs.now ≡ written_plates (keep_in command.now) }
@@ -77,7 +77,7 @@ fn write_kept<R: Rack>(
     let Kept { planes, report } = kept;
     match write_page(rack, outputs, planes, command.report, report.as_slice()) {
         Ok(()) => Ok(()),
-        Err(refusal) => Err(KeepError::Page(refusal)),
+        Err(error) => Err(TrapkeepError::Page(error)),
     }
 }
 
@@ -88,20 +88,20 @@ pub(crate) fn put_page<R: Rack>(
     command: &KeepArgs<'_>,
     page: &Page,
     rack: &mut R,
-) -> Result<(), KeepError>
+) -> Result<(), TrapkeepError>
     requires within { IsWithin command.now }
     requires count { plates page.now ≡ length command.now.plates.now }
     ensures { PutsPage (keep_in command.now) page.now (R.state rack.old) (R.state rack.new) result }
 {
     let _valid = page.plates();
     if is_wide(command, page) {
-        return Err(KeepError::TooWide);
+        return Err(TrapkeepError::TooWide);
     }
     match (
         plate_outputs(alloc, command.plates),
         kept_of(alloc, command, page),
     ) {
         (Ok(outputs), Ok(kept)) => write_kept(command, page, kept, outputs.as_slice(), rack),
-        _ => Err(KeepError::Page(Refusal::Memory)),
+        _ => Err(TrapkeepError::Page(CommonError::Memory)),
     }
 }

@@ -3,7 +3,7 @@ ghost use Rattle.trapkeep_cli.specs.Clauses.{Success, Usage, RefusedInput, ReadF
 ghost use Rattle.trapkeep_cli.specs.Endings.{Ends};
 
 use crate::carry::run_command;
-use crate::cause::{KeepError, refuse_by};
+use crate::reason::{TrapkeepError, refuse_by};
 use keep_words::words::read_words;
 use outside::rack::Rack;
 use outside::tray::Tray;
@@ -18,7 +18,7 @@ use std::alloc::Global;
 ///
 /// The status is 0 if the work is done; 2 if the words are no command; 3 if the job has a fault or lacks the details of
 /// a plate's colorant; 4 if a plate's file has a fault, the plates do not make a page, or the width is more than 128
-/// pixels; 5 if a read failed; 6 if a write failed; and 7 if memory ran out. Each refusal prints one line that names the
+/// pixels; 5 if a read failed; 6 if a write failed; and 7 if memory ran out. Each error prints one line that names the
 /// cause.
 pub fn trapkeep_main<T: Tray, R: Rack>(
     alloc: Global,
@@ -54,6 +54,6 @@ fn run<T: Tray, R: Rack>(alloc: Global, words: &[String], tray: &mut T, rack: &m
 {
     match read_words(words) {
         Some(command) => run_command(alloc, &command, tray, rack),
-        None => refuse_by(rack, &KeepError::NoCommand),
+        None => refuse_by(rack, &TrapkeepError::NoCommand),
     }
 }

@@ -68,11 +68,14 @@ fn end_of_call(
     words: &[String],
     tray: &mut MemTray,
     rack: &mut MemRack,
-    told: &str,
+    reported: &str,
     files: Files<'_>,
 ) -> (u8, bool) {
     let status = trapkeep_main(alloc, words, tray, rack);
-    (status, rack.told() == told.as_bytes() && holds(rack, files))
+    (
+        status,
+        rack.reported() == reported.as_bytes() && holds(rack, files),
+    )
 }
 
 fn end_of(
@@ -80,18 +83,25 @@ fn end_of(
     alloc: Global,
     words: &str,
     tray_fails: Option<u64>,
-    told: &str,
+    reported: &str,
     files: Files<'_>,
 ) -> (u8, bool) {
     let words = words_of(alloc, words).expect(rt, "no memory");
-    let held = files_of(rt, alloc);
-    let mut tray = tray_of(alloc, held, 64, tray_fails).expect(rt, "no tray");
+    let stored = files_of(rt, alloc);
+    let mut tray = tray_of(alloc, stored, 64, tray_fails).expect(rt, "no tray");
     let mut rack = rack_of(alloc, 50, 1000, None).expect(rt, "no memory");
-    end_of_call(alloc, &words, &mut tray, &mut rack, told, files)
+    end_of_call(alloc, &words, &mut tray, &mut rack, reported, files)
 }
 
-fn judge(rt: &impl Abort, alloc: Global, words: &str, status: u8, told: &str, files: Files<'_>) {
-    let end = end_of(rt, alloc, words, None, told, files);
+fn judge(
+    rt: &impl Abort,
+    alloc: Global,
+    words: &str,
+    status: u8,
+    reported: &str,
+    files: Files<'_>,
+) {
+    let end = end_of(rt, alloc, words, None, reported, files);
     assert!(rt; end == (status, true), "{words}");
 }
 

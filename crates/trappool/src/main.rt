@@ -1,9 +1,9 @@
 //! The program `trappool`: passes its words, the disk and standard output to the top call.
 #![tactic(auto)]
 
+use common_errors::words::words;
 use outside::disk_rack::DiskRack;
 use outside::disk_tray::DiskTray;
-use refusals::words::words;
 use std::process::ExitCode;
 use trap_pool::OpenTakes;
 use trappool_cli::top::trappool_main;

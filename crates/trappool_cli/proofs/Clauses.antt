@@ -1,10 +1,10 @@
 -- The clauses of the top call, by how it ends.
 use Rattle.std.proofs.Common.{◌≡◌, ◌≢◌, ◌⊎◌, ◌∙◌, ℕ, ◌+◌, List, [], ◌∷◌, ◌++◌, length, Option, Some, None, IsTrue, inl, inr, refl, sym, ap, subst, arith, append_assoc, append-nil}
-use Rattle.outside.specs.Causes.{Rose, Asks}
+use Rattle.outside.specs.ErrorCases.{Rose, Asks}
 use Rattle.outside.specs.Rack.{RackState}
 use Rattle.outside.specs.Tray.{TrayState}
 use Rattle.outside.proofs.Names.{asks_none, asks_then}
-use Rattle.outside.proofs.Steps.{rose_before, rose_once, told_on}
+use Rattle.outside.proofs.Steps.{rose_before, rose_once, reported_on}
 use Rattle.page_model.specs.declared.parts.PageParts.{PageParts}
 use Rattle.page_model.specs.Counts.{page_counts}
 use Rattle.page_model.specs.Page.{plates}
@@ -34,17 +34,17 @@ use Rattle.trappool_cli.specs.declared.lines.TrappoolError.TheVariants.{BadLine,
 -- a line is told done, or the status is that of a refused line
 kind : (what : LineStatus) → ((what ≡ said.Done) × (status_with 0 what ≡ 0)) ⊎ (status_with 0 what ≡ 9)
 kind said.Done = inl (refl, refl)
-kind (said.Refused refusal) = inr refl
+kind (said.Refused error) = inr refl
 kind said.TooLarge = inr refl
 
 still_refused : (what : LineStatus) → status_with 9 what ≡ 9
 still_refused said.Done = refl
-still_refused (said.Refused refusal) = refl
+still_refused (said.Refused error) = refl
 still_refused said.TooLarge = refl
 
 not_six : (so_far : ℕ) (what : LineStatus) → (so_far ≡ 6 → ⊥) → status_with so_far what ≡ 6 → ⊥
 not_six so_far said.Done never is = never is
-not_six so_far (said.Refused refusal) never is = absurd (omega arith)
+not_six so_far (said.Refused error) never is = absurd (omega arith)
 not_six so_far said.TooLarge never is = absurd (omega arith)
 
 -- the statuses after a refused line
@@ -77,29 +77,29 @@ rose_in k so_far (line ∷ lines) (reply ∷ replies) a b status never (inl one)
 rose_in k so_far (line ∷ lines) (reply ∷ replies) a b status never (inr untold) six = rose_before a.faults untold.0.1.faults b.faults untold.0.2.keeps.faults (rose_once untold.0.1.faults b.faults untold.0.3.once)
 
 -- what one line that is done adds to the told text
-told_one : (k : ℕ) (line : LineParts) (reply : ReplyParts) (a b : RackState) (what : LineStatus) → what ≡ said.Done → AnswersOne k line reply a b (Some what) → IsTrue a.tells → IsTrue b.tells × (b.told ≡ a.told ++ job_line k said.Done)
-told_one k line reply a b what is one tells =
-    let kept = told_on a one.0 one.1.keeps tells in (
-      told_on one.0 b one.2.files.keeps kept,
-      one.2.told kept ∙ ap (λ (t : List ℕ). t ++ job_line k what) (one.1.told tells) ∙ ap (λ (w : LineStatus). a.told ++ job_line k w) is,
+reported_one : (k : ℕ) (line : LineParts) (reply : ReplyParts) (a b : RackState) (what : LineStatus) → what ≡ said.Done → AnswersOne k line reply a b (Some what) → IsTrue a.tells → IsTrue b.tells × (b.reported ≡ a.reported ++ job_line k said.Done)
+reported_one k line reply a b what is one tells =
+    let kept = reported_on a one.0 one.1.keeps tells in (
+      reported_on one.0 b one.2.files.keeps kept,
+      one.2.reported kept ∙ ap (λ (t : List ℕ). t ++ job_line k what) (one.1.reported tells) ∙ ap (λ (w : LineStatus). a.reported ++ job_line k w) is,
     )
 
-told_done : (k : ℕ) (lines : List LineParts) (replies : List ReplyParts) (a b : RackState) (status : ℕ) → AnswersAll k 0 lines replies a b status → status ≡ 0 → IsTrue a.tells → b.told ≡ a.told ++ done_text k lines
-told_done k [] [] a b status all is tells = ap (λ (r : RackState). r.told) all.0 ∙ sym (append-nil a.told)
-told_done k [] (reply ∷ replies) a b status all is tells = absurd all
-told_done k (line ∷ lines) [] a b status all is tells = absurd all
-told_done k (line ∷ lines) (reply ∷ replies) a b status (inl one) is tells = elim (kind one.0) [
+reported_done : (k : ℕ) (lines : List LineParts) (replies : List ReplyParts) (a b : RackState) (status : ℕ) → AnswersAll k 0 lines replies a b status → status ≡ 0 → IsTrue a.tells → b.reported ≡ a.reported ++ done_text k lines
+reported_done k [] [] a b status all is tells = ap (λ (r : RackState). r.reported) all.0 ∙ sym (append-nil a.reported)
+reported_done k [] (reply ∷ replies) a b status all is tells = absurd all
+reported_done k (line ∷ lines) [] a b status all is tells = absurd all
+reported_done k (line ∷ lines) (reply ∷ replies) a b status (inl one) is tells = elim (kind one.0) [
   | inl done ↦
-      let first = told_one k line reply a one.1 one.0 done.0 one.2 tells in
-      told_done (k + 1) lines replies one.1 b status (subst (λ (n : ℕ). AnswersAll (k + 1) n lines replies one.1 b status) done.1 one.3) is first.0
+      let first = reported_one k line reply a one.1 one.0 done.0 one.2 tells in
+      reported_done (k + 1) lines replies one.1 b status (subst (λ (n : ℕ). AnswersAll (k + 1) n lines replies one.1 b status) done.1 one.3) is first.0
       ∙ ap (λ (t : List ℕ). t ++ done_text (k + 1) lines) first.1
-      ∙ append_assoc a.told (job_line k said.Done) (done_text (k + 1) lines)
+      ∙ append_assoc a.reported (job_line k said.Done) (done_text (k + 1) lines)
   | inr bad ↦ elim (refused_on (k + 1) lines replies one.1 b status (subst (λ (n : ℕ). AnswersAll (k + 1) n lines replies one.1 b status) bad one.3)) [
     | inl nine ↦ absurd (omega arith)
     | inr six ↦ absurd (omega arith)
   ]
 ]
-told_done k (line ∷ lines) (reply ∷ replies) a b status (inr untold) is tells = let six = untold.1 in absurd (omega arith)
+reported_done k (line ∷ lines) (reply ∷ replies) a b status (inr untold) is tells = let six = untold.1 in absurd (omega arith)
 
 -- The files of a page that is written whole are finished.
 page_finished : (target : Targets) (page : PageParts) (a b : RackState) → plates page ≡ length target.outputs → WritesAll (outcome target page) a b → FinishesAll (written_names target) a b
@@ -108,10 +108,10 @@ page_finished target page a b outs wrote = subst (λ (names : List (List ℕ)). 
 
 said_finished : (target : Targets) (page : Option PageParts) (outcome : Outcome) (a b : RackState) → ((made : PageParts) → page ≡ Some made → plates made ≡ length target.outputs) → AnswersSaid target page outcome a b said.Done → FinishesAll (written_names target) a b
 said_finished target (Some page) (outcomes.Done trapped) a b outs answer = page_finished target page a b (outs page refl) answer
-said_finished target (Some page) (outcomes.Refused refusal) a b outs answer = absurd answer
+said_finished target (Some page) (outcomes.Refused error) a b outs answer = absurd answer
 said_finished target (Some page) outcomes.TooLarge a b outs answer = absurd answer
 said_finished target None (outcomes.Done trapped) a b outs answer = absurd answer
-said_finished target None (outcomes.Refused refusal) a b outs answer = absurd answer
+said_finished target None (outcomes.Refused error) a b outs answer = absurd answer
 said_finished target None outcomes.TooLarge a b outs answer = absurd answer
 
 -- So are those of all lines, where each is told done.
@@ -124,7 +124,7 @@ finished_done k (line ∷ lines) (reply ∷ replies) a b status outs (inl one) i
       let between = one.2.0 in
       let wrote = said_finished (target_of line) reply.page reply.outcome a between outs.0 (subst (λ (w : LineStatus). AnswersSaid (target_of line) reply.page reply.outcome a between w) done.0 one.2.1.answer) tells in
       let first = subst (λ (names : Option (List (List ℕ))). Asks a.finished names (written_names (target_of line))) (sym one.2.2.files.finished) wrote in
-      let kept = told_on between one.1 one.2.2.files.keeps (told_on a between one.2.1.keeps tells) in
+      let kept = reported_on between one.1 one.2.2.files.keeps (reported_on a between one.2.1.keeps tells) in
       let rest = finished_done (k + 1) lines replies one.1 b status outs.1 (subst (λ (n : ℕ). AnswersAll (k + 1) n lines replies one.1 b status) done.1 one.3) is kept in
       asks_then a.finished one.1.finished b.finished (written_names (target_of line)) (all_written lines) first rest
   | inr bad ↦ elim (refused_on (k + 1) lines replies one.1 b status (subst (λ (n : ℕ). AnswersAll (k + 1) n lines replies one.1 b status) bad one.3)) [
@@ -201,7 +201,7 @@ module _ (words : List (List ℕ)) (t t' : TrayState) (r r' : RackState) (status
   pub success : Ends words t t' r r' status → Success words t r r' status
   success (no_words none same refuses) = λ is. absurd (usage_no_answer status refuses.status_is (inl is))
   success (no_list asked fault means made refuses) = λ is. absurd (no_answer fault (subst IsAnswer refuses.status_is (inl is)))
-  success (answered asked lines replies means made all) = λ is. (asked, lines, means, made.1.answer.2, told_done 0 lines replies r r' status all is, finished_done 0 lines replies r r' status (made_outs asked.list lines replies t t' made) all is)
+  success (answered asked lines replies means made all) = λ is. (asked, lines, means, made.1.answer.2, reported_done 0 lines replies r r' status all is, finished_done 0 lines replies r r' status (made_outs asked.list lines replies t t' made) all is)
 
   pub untold : Ends words t t' r r' status → Untold r r' status
   untold (no_words none same refuses) = λ is. absurd (usage_no_answer status refuses.status_is (inr (inr is)))
@@ -227,11 +227,11 @@ module _ (words : List (List ℕ)) (t t' : TrayState) (r r' : RackState) (status
         unread = λ is. absurd (omega arith);
         memory = λ is. absurd (omega arith);
       }
-  refused_list (no_list asked (BadLine k) means (inr room) refuses) = let other = room.0 in absurd (cc)
+  refused_list (no_list asked (BadLine k) means (inr workspace) refuses) = let other = workspace.0 in absurd (cc)
   refused_list (no_list asked NotRead means (inl reads) refuses) =
       let five = refuses.status_is in
       record { bad = λ is. absurd (omega arith); unread = λ is. (reads.answer, refuses.text); memory = λ is. absurd (omega arith) }
-  refused_list (no_list asked NotRead means (inr room) refuses) = let other = room.0 in absurd (cc)
+  refused_list (no_list asked NotRead means (inr workspace) refuses) = let other = workspace.0 in absurd (cc)
   refused_list (no_list asked Memory means made refuses) =
       let seven = refuses.status_is in
       record { bad = λ is. absurd (omega arith); unread = λ is. absurd (omega arith); memory = λ is. refuses.text }

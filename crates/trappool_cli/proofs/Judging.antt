@@ -1,6 +1,6 @@
 -- What the bytes of the list say of how a call ends.
 use Rattle.std.proofs.Common.{◌≡◌, ◌⊎◌, ◌∙◌, ℕ, IsTrue, List, [], ◌∷◌, Option, Some, Ok, Err, inl, inr, sym, subst, arith}
-use Rattle.outside.specs.Causes.{Rose, Asks}
+use Rattle.outside.specs.ErrorCases.{Rose, Asks}
 use Rattle.outside.specs.Rack.{RackState}
 use Rattle.outside.specs.Tray.{TrayState}
 use Rattle.outside.proofs.Names.{asks_all}
@@ -20,7 +20,7 @@ use Rattle.trappool_cli.specs.Words.{AskedWords, asked_of}
 use Rattle.trappool_cli.specs.declared.answering.LineStatus.{LineStatus}
 use Rattle.trappool_cli.specs.declared.lines.TrappoolError.{TrappoolError}
 use Rattle.trappool_cli.specs.declared.lines.TrappoolError.TheVariants.{BadLine, NotRead, Memory}
-use Rattle.refusals.specs.Telling.{TellsText}
+use Rattle.common_errors.specs.Telling.{TellsText}
 use Rattle.trappool_cli.proofs.Cases.{asked_reading, asked_writing, calm_at, lines_end, writes_rise}
 use Rattle.trappool_cli.proofs.Clauses.{answer_status, both, no_answer, rose_in, usage_no_answer}
 

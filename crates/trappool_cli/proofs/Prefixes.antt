@@ -5,12 +5,12 @@ use Rattle.std.specs.Str.{is_utf8}
 use Rattle.plain_words.specs.Parts.{PlateNames, is_some_text, parts_of}
 use Rattle.std.proofs.lemmas.List.{length-drop, length-map, length-take, take-append-drop, take_all}
 use Rattle.job_list.specs.Lines.{LineParts, are_plates, is_lf, is_space, line_of, line_of_words, line_with}
-use Rattle.outside.specs.Causes.{Asks}
+use Rattle.outside.specs.ErrorCases.{Asks}
 use Rattle.outside.specs.Reading.{TakesPrefix}
 use Rattle.outside.specs.Tray.{TrayState, KeepsTray}
 use Rattle.job_list.specs.Lists.{IsBadLine, IsList, ReadsList, lines_of, one_more, text_of}
-use Rattle.job_list.specs.declared.reading.ListRefusal.{ListRefusal}
-use Rattle.job_list.specs.declared.reading.ListRefusal.TheVariants as refused
+use Rattle.job_list.specs.declared.reading.ListError.{ListError}
+use Rattle.job_list.specs.declared.reading.ListError.TheVariants as refused
 use Rattle.trappool_cli.specs.declared.lines.TrappoolError.{TrappoolError}
 use Rattle.trappool_cli.specs.Reading.{AllPaired, AreJobs, Judges, ReadsLines, TakesList}
 use Rattle.job_list.proofs.Going.{as_many, text_more}
@@ -100,7 +100,7 @@ list_jobs bytes lines list =
     (omega arith, texts_paired list.0 lines list.3.read)
 
 -- A list that was read is judged.
-pub read_judged : (most : ℕ) (name : List ℕ) (a b : TrayState) (bytes : List ℕ) (read : Result (List LineParts) ListRefusal) (result : Result (List LineParts) TrappoolError) → KeepsTray a b → Asks a.asked b.asked (name ∷ []) → TakesList name a b → b.faults ≡ a.faults → (IsTrue a.tells → TakesPrefix name most a b bytes) → ReadsList bytes read → Judges read result → 1048577 ≤ most → ReadsLines name a b result
+pub read_judged : (most : ℕ) (name : List ℕ) (a b : TrayState) (bytes : List ℕ) (read : Result (List LineParts) ListError) (result : Result (List LineParts) TrappoolError) → KeepsTray a b → Asks a.asked b.asked (name ∷ []) → TakesList name a b → b.faults ≡ a.faults → (IsTrue a.tells → TakesPrefix name most a b bytes) → ReadsList bytes read → Judges read result → 1048577 ≤ most → ReadsLines name a b result
 read_judged most name a b bytes (Ok lines) result keeps asked few calm taken reads is enough =
     subst (ReadsLines name a b) (sym is) (record {
       keeps = keeps;

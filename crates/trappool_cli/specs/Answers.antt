@@ -1,7 +1,7 @@
 -- How the lines of a list are answered: files are written, and a line is printed.
 use Rattle.std.specs.Prelude.{◌≡◌, ◌⊎◌, ℕ, ◌+◌, IsTrue, List, [], ◌∷◌, ◌++◌, length, take, Option}
 use Rattle.std.specs.Prelude.{Some, None}
-use Rattle.outside.specs.Causes.{RoseOnce, AsksPrefix}
+use Rattle.outside.specs.ErrorCases.{RoseOnce, AsksPrefix}
 use Rattle.outside.specs.Rack.{RackState, KeepsRack}
 use Rattle.page_model.specs.declared.parts.PageParts.{PageParts}
 use Rattle.page_model.specs.Page.{plates}
@@ -11,9 +11,9 @@ use Rattle.trap_pool.specs.declared.outcome.Outcome.{Outcome}
 use Rattle.trap_pool.specs.declared.outcome.Outcome.TheVariants as outcomes
 use Rattle.trap_pool.specs.Pools.{target_of}
 use Rattle.trap_pool.specs.Replies.{ReplyParts}
-use Rattle.refusals.specs.declared.refusal.Refusal.TheVariants as refusals
-use Rattle.refusals.specs.Statuses.{lines_refused, not_written}
-use Rattle.refusals.specs.Telling.{KeepsFiles}
+use Rattle.common_errors.specs.declared.common.CommonError.TheVariants as errors
+use Rattle.common_errors.specs.Statuses.{lines_refused, not_written}
+use Rattle.common_errors.specs.Telling.{KeepsFiles}
 use Rattle.page_files.specs.Verdicts.{Targets, outcome, written_names}
 use Rattle.trappool_cli.specs.declared.answering.LineStatus.{LineStatus}
 use Rattle.trappool_cli.specs.declared.answering.LineStatus.TheVariants as said
@@ -23,10 +23,10 @@ use Rattle.trappool_cli.specs.Text.{job_line}
 -- report.
 abbrev pub AnswersDone : Targets → PageParts → RackState → RackState → LineStatus → Type 0
 AnswersDone target page before after said.Done = WritesAll (outcome target page) before after
-AnswersDone target page before after (said.Refused (refusals.Write file)) =
+AnswersDone target page before after (said.Refused (errors.Write file)) =
     Breaks (length target.outputs) (outcome target page) file before after
     × RoseOnce before.faults after.faults
-AnswersDone target page before after (said.Refused refusals.Memory) = after ≡ before
+AnswersDone target page before after (said.Refused errors.Memory) = after ≡ before
 AnswersDone target page before after other = ⊥
 
 -- What becomes of the files, and what is said: a page that is done is written, unless the rack has
@@ -35,8 +35,8 @@ abbrev pub AnswersSaid : Targets → Option PageParts → Outcome → RackState 
     → Type 0
 AnswersSaid target (Some page) (outcomes.Done trapped) before after what =
     AnswersDone target page before after what
-AnswersSaid target page (outcomes.Refused refusal) before after (said.Refused other) =
-    (other ≡ refusal) × (after ≡ before)
+AnswersSaid target page (outcomes.Refused error) before after (said.Refused other) =
+    (other ≡ error) × (after ≡ before)
 AnswersSaid target page outcomes.TooLarge before after said.TooLarge = after ≡ before
 AnswersSaid target page outcome before after other = ⊥
 
@@ -44,7 +44,7 @@ AnswersSaid target page outcome before after other = ⊥
 pub record WritesReply (line : LineParts) (reply : ReplyParts) (before after : RackState)
     (said : LineStatus) : Type 0 where
   pub keeps : KeepsRack before after
-  pub told : IsTrue before.tells → after.told ≡ before.told
+  pub reported : IsTrue before.tells → after.reported ≡ before.reported
   pub asked : AsksPrefix before.asked after.asked (written_names (target_of line))
   pub answer : AnswersSaid (target_of line) reply.page reply.outcome before after said
 
@@ -63,7 +63,7 @@ AllHaveOuts (line ∷ lines) [] = ⊥
 pub record WritesDone (line : LineParts) (page : PageParts) (before after : RackState)
     (said : LineStatus) : Type 0 where
   pub keeps : KeepsRack before after
-  pub told : IsTrue before.tells → after.told ≡ before.told
+  pub reported : IsTrue before.tells → after.reported ≡ before.reported
   pub asked : AsksPrefix before.asked after.asked (written_names (target_of line))
   pub answer : AnswersDone (target_of line) page before after said
 
@@ -71,13 +71,13 @@ pub record WritesDone (line : LineParts) (page : PageParts) (before after : Rack
 pub record TellsWhole (text : List ℕ) (before after : RackState) : Type 0 where
   pub files : KeepsFiles before after
   pub calm : after.faults ≡ before.faults
-  pub told : IsTrue before.tells → after.told ≡ before.told ++ text
+  pub reported : IsTrue before.tells → after.reported ≡ before.reported ++ text
 
 -- One call of the rack failed: a prefix of the text is printed.
 pub record TellsPart (text : List ℕ) (before after : RackState) : Type 0 where
   pub files : KeepsFiles before after
   pub once : RoseOnce before.faults after.faults
-  pub told : IsTrue before.tells → (count : ℕ) × (after.told ≡ before.told ++ take count text)
+  pub reported : IsTrue before.tells → (count : ℕ) × (after.reported ≡ before.reported ++ take count text)
 
 -- Line k is answered, and printed if there is something said.
 abbrev pub AnswersOne : ℕ → LineParts → ReplyParts → RackState → RackState → Option LineStatus
@@ -90,7 +90,7 @@ AnswersOne k line reply before after None = (said : LineStatus) × (between : Ra
 -- the status, after what is said of one line more
 abbrev pub status_with : ℕ → LineStatus → ℕ
 status_with status said.Done = status
-status_with status (said.Refused refusal) = lines_refused
+status_with status (said.Refused error) = lines_refused
 status_with status said.TooLarge = lines_refused
 
 -- The lines from number k on are answered one after another; the first that cannot be printed is

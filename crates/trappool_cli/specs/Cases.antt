@@ -1,6 +1,6 @@
 -- What becomes of each line of a list, beside the verdict on its files.
 use Rattle.std.specs.Prelude.{◌≡◌, ◌⊎◌, ℕ, ◌+◌, ◌<◌, ◌≤◌, IsTrue, List, [], ◌∷◌, length, Option, Ok}
-use Rattle.outside.specs.Causes.{Rose, RoseOnce, AsksPrefix}
+use Rattle.outside.specs.ErrorCases.{Rose, RoseOnce, AsksPrefix}
 use Rattle.outside.specs.Rack.{RackState, KeepsRack}
 use Rattle.outside.specs.Tray.{TrayState}
 use Rattle.page_files.specs.Inputs.{Makes, one_page}
@@ -9,8 +9,8 @@ use Rattle.page_files.specs.Writing.{Breaks, WritesAll}
 use Rattle.job_list.specs.Lines.{LineParts}
 use Rattle.trap_pool.specs.Pools.{source_of, target_of}
 use Rattle.trap_pool.specs.Replies.{all_samples, most_in_all}
-use Rattle.refusals.specs.declared.refusal.Refusal.TheVariants as refusals
-use Rattle.refusals.specs.Statuses.{not_written}
+use Rattle.common_errors.specs.declared.common.CommonError.TheVariants as errors
+use Rattle.common_errors.specs.Statuses.{not_written}
 use Rattle.page_files.specs.Verdicts.{IsVerdict, Out, Refused as refused_verdict, outcome}
 use Rattle.page_files.specs.Verdicts.{written_names}
 use Rattle.trappool_cli.specs.Answers.{TellsPart, TellsWhole, status_with}
@@ -30,12 +30,12 @@ pub record MakesPage (tray : TrayState) (line : LineParts) (page : PageParts) : 
 pub record AcceptsPage (tray : TrayState) (used taken : ℕ) (line : LineParts)
     (page : PageParts) : Type 0 where
   pub is_made : MakesPage tray line page
-  pub room : used + all_samples page ≤ most_in_all
+  pub workspace : used + all_samples page ≤ most_in_all
   pub samples : taken ≡ all_samples page
 
 -- The cases of a line, by what is said of it: its files are those of the verdict; its page is too
 -- large after the accepted ones before it; one write failed, and the files are written as far as
--- that; there was no memory; a read failed, and the tray's count rose; or its refusal is the
+-- that; there was no memory; a read failed, and the tray's count rose; or its error is the
 -- verdict. Where it is refused without a failed write, no file is touched.
 abbrev pub IsCase : TrayState → TrayState → ℕ → ℕ → LineParts → RackState → RackState → LineStatus
     → Type 0
@@ -44,18 +44,18 @@ IsCase tray tray' used taken line before after said.Done = (page : PageParts)
 IsCase tray tray' used taken line before after said.TooLarge = (page : PageParts)
     × MakesPage tray line page × (most_in_all < used + all_samples page) × (taken ≡ 0)
     × (after ≡ before)
-IsCase tray tray' used taken line before after (said.Refused (refusals.Write file)) =
+IsCase tray tray' used taken line before after (said.Refused (errors.Write file)) =
     (page : PageParts) × AcceptsPage tray used taken line page
     × Breaks (length line.outs) (outcome (target_of line) page) file before after
     × RoseOnce before.faults after.faults
-IsCase tray tray' used taken line before after (said.Refused refusals.Memory) =
+IsCase tray tray' used taken line before after (said.Refused errors.Memory) =
     ((taken ≡ 0) ⊎ ((page : PageParts) × AcceptsPage tray used taken line page)) × (after ≡ before)
-IsCase tray tray' used taken line before after (said.Refused (refusals.Read file)) =
+IsCase tray tray' used taken line before after (said.Refused (errors.Read file)) =
     Rose tray.faults tray'.faults × (taken ≡ 0) × (after ≡ before)
-IsCase tray tray' used taken line before after (said.Refused refusals.Usage) = ⊥
-IsCase tray tray' used taken line before after (said.Refused refusal) =
+IsCase tray tray' used taken line before after (said.Refused errors.Usage) = ⊥
+IsCase tray tray' used taken line before after (said.Refused error) =
     (IsTrue tray.tells
-    → IsVerdict one_page tray.file (source_of line) (target_of line) (refused_verdict refusal))
+    → IsVerdict one_page tray.file (source_of line) (target_of line) (refused_verdict error))
     × (taken ≡ 0) × (after ≡ before)
 
 -- A line is in one of the cases. No text is printed, and the names that are handed to `create` are
@@ -63,7 +63,7 @@ IsCase tray tray' used taken line before after (said.Refused refusal) =
 pub record LineEnds (tray tray' : TrayState) (used taken : ℕ) (line : LineParts)
     (before after : RackState) (what : LineStatus) : Type 0 where
   pub keeps : KeepsRack before after
-  pub told : IsTrue before.tells → after.told ≡ before.told
+  pub reported : IsTrue before.tells → after.reported ≡ before.reported
   pub asked : AsksPrefix before.asked after.asked (written_names (target_of line))
   pub ends : IsCase tray tray' used taken line before after what
 
@@ -85,7 +85,7 @@ LinesEnd tray tray' k used so_far (line ∷ lines) (what ∷ whats) before after
 
 -- 1 where a failed read is reported
 abbrev pub read_line : LineStatus → ℕ
-read_line (said.Refused (refusals.Read file)) = 1
+read_line (said.Refused (errors.Read file)) = 1
 read_line other = 0
 
 -- how many lines tell one
@@ -95,7 +95,7 @@ read_lines (what ∷ whats) = read_line what + read_lines whats
 
 -- 1 where a failed write is reported
 abbrev pub write_line : LineStatus → ℕ
-write_line (said.Refused (refusals.Write file)) = 1
+write_line (said.Refused (errors.Write file)) = 1
 write_line other = 0
 
 -- how many lines tell one

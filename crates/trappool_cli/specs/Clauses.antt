@@ -2,7 +2,7 @@
 -- after the call.
 use Rattle.std.specs.Prelude.{◌≡◌, ◌≢◌, ◌⊎◌, ℕ, ◌+◌, ◌-◌, ◌^◌, ◌<◌, ◌≤◌, IsTrue, List, [], ◌∷◌}
 use Rattle.std.specs.Prelude.{◌++◌, length, map, Some, None, Ok}
-use Rattle.outside.specs.Causes.{Rose, RoseOnce, Asks}
+use Rattle.outside.specs.ErrorCases.{Rose, RoseOnce, Asks}
 use Rattle.outside.specs.Rack.{RackState}
 use Rattle.outside.specs.Tray.{TrayState}
 use Rattle.page_files.specs.Inputs.{Holds, one_page, read_files}
@@ -12,11 +12,11 @@ use Rattle.job_list.specs.Lines.{LineParts}
 use Rattle.job_list.specs.Lists.{IsBadLine, IsList}
 use Rattle.trap_pool.specs.Pools.{source_of, target_of}
 use Rattle.trap_pool.specs.Replies.{ReplyParts}
-use Rattle.refusals.specs.Refusals.{line_of}
-use Rattle.refusals.specs.Statuses.{done, job_refused, not_read, not_written, out_of_memory}
-use Rattle.refusals.specs.Statuses.{usage, lines_refused}
-use Rattle.refusals.specs.Telling.{KeepsFiles, TellsText}
-use Rattle.refusals.specs.declared.refusal.Refusal.TheVariants as refusals
+use Rattle.common_errors.specs.CommonErrors.{line_of}
+use Rattle.common_errors.specs.Statuses.{done, job_refused, not_read, not_written, out_of_memory}
+use Rattle.common_errors.specs.Statuses.{usage, lines_refused}
+use Rattle.common_errors.specs.Telling.{KeepsFiles, TellsText}
+use Rattle.common_errors.specs.declared.common.CommonError.TheVariants as errors
 use Rattle.trappool_cli.specs.Answers.{AnswersAll}
 use Rattle.trappool_cli.specs.Cases.{AsksPrefixes, LinesEnd, read_lines, write_lines}
 use Rattle.trappool_cli.specs.Reading.{MakesReplies, TakesList}
@@ -45,7 +45,7 @@ pub record RefusedList (words : List (List ℕ)) (tray tray' : TrayState) (rack 
       → Holds tray.file asked.list (λ bytes. IsBadLine bytes k)) × TellsText (bad_line k) rack rack'
   pub unread : status ≡ not_read → RoseOnce tray.faults tray'.faults
       × TellsText unread_line rack rack'
-  pub memory : status ≡ out_of_memory → TellsText (line_of refusals.Memory) rack rack'
+  pub memory : status ≡ out_of_memory → TellsText (line_of errors.Memory) rack rack'
 
 -- At every status but 0, 6 and 9 no file is created, changed, opened or finished.
 abbrev pub LeavesFiles : RackState → RackState → ℕ → Type 0
@@ -68,7 +68,7 @@ abbrev pub Success : List (List ℕ) → TrayState → RackState → RackState �
 Success words tray rack rack' status = status ≡ done → (asked : AskedWords)
     × (lines : List LineParts) × (asked_of words ≡ Some asked)
     × (IsTrue tray.tells → Holds tray.file asked.list (λ bytes. IsList bytes lines))
-    × (IsTrue rack.tells → rack'.told ≡ rack.told ++ done_text 0 lines)
+    × (IsTrue rack.tells → rack'.reported ≡ rack.reported ++ done_text 0 lines)
     × FinishesAll (all_written lines) rack rack'
 
 -- Status 6 comes only where the rack's count rose.
@@ -126,7 +126,7 @@ pub record Answered (asked : AskedWords) (tray tray' : TrayState) (rack rack' : 
       → length before ≡ length earlier → IsTrue tray.tells
       → IsVerdict one_page tray.file (source_of line) (target_of line) (Out written)
       → ¬ Rose tray.faults tray'.faults → ¬ Rose rack.faults rack'.faults → (what ≡ said.Done)
-      ⊎ ((what ≡ said.TooLarge) ⊎ (what ≡ said.Refused refusals.Memory))
+      ⊎ ((what ≡ said.TooLarge) ⊎ (what ≡ said.Refused errors.Memory))
 
 -- Status 0, 9 and 6 come only where a list was read: there is then something said of each of its
 -- lines, up to the first that cannot be printed.

@@ -4,10 +4,10 @@ use Rattle.outside.specs.Tray.{TrayState}
 use Rattle.outside.specs.Rack.{RackState}
 use Rattle.job_list.specs.Lines.{LineParts}
 use Rattle.trap_pool.specs.Replies.{ReplyParts}
-use Rattle.refusals.specs.Refusals.{line_of}
-use Rattle.refusals.specs.declared.refusal.Refusal.TheVariants as refusals
-use Rattle.refusals.specs.Statuses.{job_refused, not_read, out_of_memory, usage}
-use Rattle.refusals.specs.Telling.{KeepsFiles, TellsText}
+use Rattle.common_errors.specs.CommonErrors.{line_of}
+use Rattle.common_errors.specs.declared.common.CommonError.TheVariants as errors
+use Rattle.common_errors.specs.Statuses.{job_refused, not_read, out_of_memory, usage}
+use Rattle.common_errors.specs.Telling.{KeepsFiles, TellsText}
 use Rattle.trappool_cli.specs.Answers.{AnswersAll}
 use Rattle.trappool_cli.specs.Reading.{MakesReplies}
 use Rattle.trappool_cli.specs.Text.{bad_line, unread_line, usage_line}
@@ -25,7 +25,7 @@ pub record Refuses (line : List ℕ) (its : ℕ) (before after : RackState) (sta
 abbrev pub fault_line : TrappoolError → List ℕ
 fault_line (BadLine k) = bad_line k
 fault_line NotRead = unread_line
-fault_line Memory = line_of refusals.Memory
+fault_line Memory = line_of errors.Memory
 
 abbrev pub fault_status : TrappoolError → ℕ
 fault_status (BadLine k) = job_refused

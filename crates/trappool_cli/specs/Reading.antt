@@ -1,13 +1,13 @@
 -- How the list and the pages of its lines are read.
 use Rattle.std.specs.Prelude.{◌≡◌, ◌⊎◌, ℕ, ◌+◌, ◌≤◌, IsTrue, List, [], ◌∷◌, length, Result, Ok, Err}
-use Rattle.outside.specs.Causes.{RoseOnce, Asks}
+use Rattle.outside.specs.ErrorCases.{RoseOnce, Asks}
 use Rattle.outside.specs.Reading.{TakesFew}
 use Rattle.outside.specs.Tray.{TrayState, KeepsTray}
 use Rattle.page_files.specs.Inputs.{Holds}
 use Rattle.job_list.specs.Lines.{LineParts}
 use Rattle.job_list.specs.Lists.{IsBadLine, IsList, longest_list, most_lines}
-use Rattle.job_list.specs.declared.reading.ListRefusal.{ListRefusal}
-use Rattle.job_list.specs.declared.reading.ListRefusal.TheVariants as refused
+use Rattle.job_list.specs.declared.reading.ListError.{ListError}
+use Rattle.job_list.specs.declared.reading.ListError.TheVariants as refused
 use Rattle.trap_pool.specs.Pools.{Pools}
 use Rattle.trap_pool.specs.Replies.{ReplyParts}
 use Rattle.trappool_cli.specs.declared.lines.TrappoolError.{TrappoolError}
@@ -50,8 +50,8 @@ pub record ReadsLines (name : List ℕ) (before after : TrayState)
   pub few : TakesList name before after
   pub answer : AnswersList name before after result
 
--- the list that was read, or its refusal as the program tells it
-abbrev pub Judges : Result (List LineParts) ListRefusal → Result (List LineParts) TrappoolError
+-- the list that was read, or its error as the program tells it
+abbrev pub Judges : Result (List LineParts) ListError → Result (List LineParts) TrappoolError
     → Type 0
 Judges (Ok lines) result = result ≡ Ok lines
 Judges (Err (refused.BadLine k)) result = result ≡ Err (BadLine k)

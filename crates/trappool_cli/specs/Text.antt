@@ -1,7 +1,7 @@
 -- What a pool tells.
 use Rattle.std.specs.Prelude.{ℕ, List, ◌++◌, codes, decimal}
-use Rattle.refusals.specs.Refusals.{line_of}
-use Rattle.refusals.specs.Lines.{line}
+use Rattle.common_errors.specs.CommonErrors.{line_of}
+use Rattle.common_errors.specs.Lines.{line}
 use Rattle.trappool_cli.specs.declared.answering.LineStatus.{LineStatus}
 use Rattle.trappool_cli.specs.declared.answering.LineStatus.TheVariants.{Done, Refused, TooLarge}
 
@@ -9,7 +9,7 @@ use Rattle.trappool_cli.specs.declared.answering.LineStatus.TheVariants.{Done, R
 abbrev pub said_text : LineStatus → List ℕ
 said_text Done = line (codes "done")
 said_text TooLarge = line (codes "TooLarge")
-said_text (Refused refusal) = line_of refusal
+said_text (Refused error) = line_of error
 
 -- the prefix of the line that is printed for a job of the list
 abbrev pub job_name : ℕ → List ℕ

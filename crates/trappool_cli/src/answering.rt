@@ -9,13 +9,13 @@ ghost use Rattle.trap_report.specs.Report.{report_of};
 ghost use Rattle.trappool_cli.specs.Answers.{AllHaveOuts, AnswersAll, AnswersOne, HasOuts, WritesDone, WritesReply};
 
 use crate::telling::tell_job;
+use common_errors::common::CommonError;
+use common_errors::statuses::{DONE, LINES_REFUSED, NOT_WRITTEN};
 use job_list::line::{LineList, ListLine};
 use outside::rack::Rack;
-use outside::tray::Failed;
-use page_model::parts::{Name, PlaneList};
+use outside::tray::DeviceError;
 use page_files::writing::write_page;
-use refusals::refusal::Refusal;
-use refusals::statuses::{DONE, LINES_REFUSED, NOT_WRITTEN};
+use page_model::parts::{Name, PlaneList};
 use trap_pool::outcome::Outcome;
 use trap_pool::reply::{Reply, ReplyLine, ReplyList};
 
@@ -24,7 +24,7 @@ use trap_pool::reply::{Reply, ReplyLine, ReplyList};
 pub(crate) enum LineStatus {
     // Its files are written.
     Done,
-    Refused(Refusal),
+    Refused(CommonError),
     TooLarge,
 }
 
@@ -63,7 +63,7 @@ fn answer_line<R: Rack>(
     let said = write_reply(rack, line, reply);
     match tell_job(rack, number, &said) {
         Ok(()) => Some(said),
-        Err(Failed) => None,
+        Err(DeviceError) => None,
     }
 }
 
@@ -83,7 +83,7 @@ fn write_reply<R: Rack>(rack: &mut R, line: &ListLine, reply: Reply) -> LineStat
             Some(text) => write_done(rack, line, trapped.planes, &text),
             None => unreachable!(),
         },
-        Outcome::Refused(refusal) => LineStatus::Refused(refusal),
+        Outcome::Refused(error) => LineStatus::Refused(error),
         Outcome::TooLarge => LineStatus::TooLarge,
     }
 }
@@ -99,6 +99,6 @@ fn write_done<R: Rack>(rack: &mut R, line: &ListLine, planes: PlaneList, text: &
 {
     match write_page(rack, line.outs(), planes, line.report(), text.as_slice()) {
         Ok(()) => LineStatus::Done,
-        Err(refusal) => LineStatus::Refused(refusal),
+        Err(error) => LineStatus::Refused(error),
     }
 }

@@ -2,19 +2,19 @@ ghost use Rattle.std.specs.Prelude.{◌≡◌, ◌≤◌, length};
 ghost use Rattle.trappool_cli.specs.Endings.{Refuses, fault_line, fault_status};
 ghost use Rattle.trappool_cli.specs.Reading.{MakesReplies};
 ghost use Rattle.trappool_cli.specs.Text.{bad_line as bad_line_spec, usage_line};
-ghost use Rattle.refusals.specs.Statuses.{usage};
+ghost use Rattle.common_errors.specs.Statuses.{usage};
 ghost use Rattle.page_model.specs.Limits.{most_workers};
 
 use crate::lines::{TrappoolError, read_lines};
 use crate::words::TrappoolArgs;
+use common_errors::common::CommonError;
+use common_errors::line::Line;
+use common_errors::statuses::{JOB_REFUSED, NOT_READ, USAGE};
+use common_errors::telling::{refuse, tell_line};
 use job_list::line::LineList;
 use lists::names::OutOfMemory;
 use outside::rack::Rack;
 use outside::tray::Tray;
-use refusals::line::Line;
-use refusals::refusal::Refusal;
-use refusals::statuses::{JOB_REFUSED, NOT_READ, USAGE};
-use refusals::telling::{refuse, tell_line};
 use std::alloc::Global;
 use std::sync::Wait;
 use std::thread::Threads;
@@ -55,7 +55,7 @@ pub(crate) fn refuse_list<R: Rack>(rack: &mut R, fault: TrappoolError) -> u8
             tell_line(rack, &Line::of_text(b"read fault: list"));
             NOT_READ
         }
-        TrappoolError::Memory => refuse(rack, &Refusal::Memory),
+        TrappoolError::Memory => refuse(rack, &CommonError::Memory),
     }
 }
 

@@ -1,8 +1,8 @@
 ghost use Rattle.trappool_cli.specs.Reading.{Judges, ReadsLines};
 
 use job_list::line::LineList;
-use job_list::reading::{ListRefusal, MOST_BYTES, read_list};
-use outside::reading::{ReadRefusal, read_file};
+use job_list::reading::{ListError, MOST_BYTES, read_list};
+use outside::reading::{ReadError, read_file};
 use outside::tray::Tray;
 use std::alloc::Global;
 
@@ -29,17 +29,17 @@ pub(crate) fn read_lines<T: Tray>(
 {
     match read_file(alloc, tray, name, MOST_LIST) {
         Ok(bytes) => lines_or_fault(read_list(alloc, bytes.as_slice())),
-        Err(ReadRefusal::ReadFault) => Err(TrappoolError::NotRead),
-        Err(ReadRefusal::OutOfMemory) => Err(TrappoolError::Memory),
+        Err(ReadError::ReadFault) => Err(TrappoolError::NotRead),
+        Err(ReadError::OutOfMemory) => Err(TrappoolError::Memory),
     }
 }
 
-fn lines_or_fault(read: Result<LineList, ListRefusal>) -> Result<LineList, TrappoolError>
+fn lines_or_fault(read: Result<LineList, ListError>) -> Result<LineList, TrappoolError>
     ensures { Judges read result }
 {
     match read {
         Ok(lines) => Ok(lines),
-        Err(ListRefusal::BadLine(line)) => Err(TrappoolError::BadLine(line)),
-        Err(ListRefusal::OutOfMemory) => Err(TrappoolError::Memory),
+        Err(ListError::BadLine(line)) => Err(TrappoolError::BadLine(line)),
+        Err(ListError::OutOfMemory) => Err(TrappoolError::Memory),
     }
 }

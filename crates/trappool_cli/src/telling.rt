@@ -6,30 +6,34 @@ ghost use Rattle.trappool_cli.specs.Answers.{TellsPart, TellsWhole};
 ghost use Rattle.trappool_cli.specs.Text.{job_line, job_name as name_spec, said_text};
 
 use crate::answering::LineStatus;
+use common_errors::fault_line::fault_line;
+use common_errors::line::Line;
 use outside::rack::Rack;
-use outside::tray::Failed;
-use refusals::fault_line::fault_line;
-use refusals::line::Line;
+use outside::tray::DeviceError;
 
 // Prints what became of a job of the list, or a prefix of it if the rack fails.
-pub(crate) fn tell_job<R: Rack>(rack: &mut R, number: u32, said: &LineStatus) -> Result<(), Failed>
+pub(crate) fn tell_job<R: Rack>(
+    rack: &mut R,
+    number: u32,
+    said: &LineStatus,
+) -> Result<(), DeviceError>
     ensures { MatchResult result
         (λ _. TellsWhole (job_line number said.now) (R.state rack.old) (R.state rack.new))
         (λ _. TellsPart (job_line number said.now) (R.state rack.old) (R.state rack.new)) }
 {
     match rack.tell(job_name(number).as_slice()) {
         Ok(()) => tell_status(rack, said),
-        Err(Failed) => Err(Failed),
+        Err(DeviceError) => Err(DeviceError),
     }
 }
 
-fn tell_status<R: Rack>(rack: &mut R, said: &LineStatus) -> Result<(), Failed>
+fn tell_status<R: Rack>(rack: &mut R, said: &LineStatus) -> Result<(), DeviceError>
     ensures { Tells (said_text said.now) (R.state rack.old) (R.state rack.new) result }
 {
     match said {
         LineStatus::Done => rack.tell(b"done\n"),
         LineStatus::TooLarge => rack.tell(b"TooLarge\n"),
-        LineStatus::Refused(refusal) => rack.tell(fault_line(refusal).as_slice()),
+        LineStatus::Refused(error) => rack.tell(fault_line(error).as_slice()),
     }
 }
 

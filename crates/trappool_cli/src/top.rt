@@ -8,11 +8,11 @@ use crate::words::read_words;
 use job_list::laws::one_reading;
 use outside::rack::Rack;
 use outside::tray::Tray;
+use page_files::laws::one_verdict;
 use std::alloc::Global;
 use std::sync::Wait;
 use std::thread::Threads;
 use trap_pool::TakeGate;
-use page_files::laws::one_verdict;
 
 /// Traps the pages of a list of jobs, and returns the status that the program exits with.
 ///

@@ -63,7 +63,7 @@ const USUAL: Case<'static> = Case {
 #[derive(Clone, Copy)]
 struct Wanted<'a> {
     status: u8,
-    told: &'a str,
+    reported: &'a str,
     written: &'a [(&'a str, Option<&'a [u8]>)],
 }
 
@@ -139,7 +139,7 @@ fn ends<H: Threads + Wait + Abort + Sync, G: TakeGate + Sync>(
 }
 
 fn is_left(rack: &MemRack, wanted: Wanted<'_>) -> bool {
-    rack.told() == wanted.told.as_bytes() && has_written(rack, wanted.written)
+    rack.reported() == wanted.reported.as_bytes() && has_written(rack, wanted.written)
 }
 
 fn has_written(rack: &MemRack, written: &[(&str, Option<&[u8]>)]) -> bool {

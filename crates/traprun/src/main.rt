@@ -2,11 +2,11 @@
 #![tactic(auto)]
 
 use band_claims::OpenGate;
+use common_errors::words::words;
 use outside::disk_rack::DiskRack;
 use outside::disk_tray::DiskTray;
-use traprun_cli::top::traprun_main;
-use refusals::words::words;
 use std::process::ExitCode;
+use traprun_cli::top::traprun_main;
 
 fn main(rt: HostRuntime) -> ExitCode {
     match words(&rt) {

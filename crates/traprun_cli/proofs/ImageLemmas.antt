@@ -9,17 +9,17 @@ use Rattle.page_files.specs.Steps.{IsPlaneOfPage}
 use Rattle.page_files.proofs.PlateLemmas.{kept_count}
 use Rattle.pgm_plates.specs.declared.plate.Plate.{Plate as PlateRead}
 use Rattle.pgm_plates.specs.declared.plate.PlateFault.{PlateFault}
-use Rattle.pgm_plates.specs.declared.plate.PlateRefusal.{PlateRefusal}
-use Rattle.pgm_plates.specs.declared.plate.PlateRefusal.TheVariants.{Fault, ReadFault}
+use Rattle.pgm_plates.specs.declared.plate.PlateError.{PlateError}
+use Rattle.pgm_plates.specs.declared.plate.PlateError.TheVariants.{Fault, ReadFault}
 use Rattle.pgm_plates.specs.Planes.{plate_of}
 use Rattle.pgm_plates.specs.Sequences.{AreFewOfPage, IsSequence, ReadsPage, StandsAfter}
 use Rattle.pgm_plates.proofs.Facts.{cut_or_not, fault_stays}
 use Rattle.traprun_cli.specs.InHand.{MayHold, TakesImage}
 use Rattle.traprun_cli.specs.Reading.{ExpectsEnd, IsUnbroken, ends_sought, images_sought}
-use Rattle.traprun_cli.specs.declared.stop.TraprunError.{TraprunError}
-use Rattle.traprun_cli.specs.declared.stop.TraprunError.TheVariants.{Whole, AtPage, Ends, Extra}
+use Rattle.traprun_cli.specs.declared.error.TraprunError.{TraprunError}
+use Rattle.traprun_cli.specs.declared.error.TraprunError.TheVariants.{Whole, AtPage, Ends, Extra}
 use Rattle.traprun_cli.specs.Images.{HasImage, HasImageFault, HasNoImage}
-use Rattle.refusals.specs.declared.refusal.Refusal.TheVariants.{Plate, Read}
+use Rattle.common_errors.specs.declared.common.CommonError.TheVariants.{Plate, Read}
 
 -- what stands after plate files, where more is left of the file
 abbrev longer : (bytes image left : List ℕ) (k : ℕ) → StandsAfter bytes k image → StandsAfter (bytes ++ left) k (image ++ left)
@@ -84,7 +84,7 @@ module _ (name : List ℕ) (k : ℕ) (a b : TrayState) where
   unbroken reads begun tells = (reads.bytes, reads.taken begun tells, (reads.answer.1, reads.answer.2, reads.answer.3))
 
 -- what was taken of the file
-takes_image : (name : List ℕ) (k : ℕ) (a b : TrayState) (result : Result (Option PlateRead) PlateRefusal) → ReadsPage name k a b result → TakesImage k name a b
+takes_image : (name : List ℕ) (k : ℕ) (a b : TrayState) (result : Result (Option PlateRead) PlateError) → ReadsPage name k a b result → TakesImage k name a b
 takes_image name k a b result reads = record { bytes = reads.bytes; taken = reads.taken; few = reads.few }
 
 module _ (k plate : ℕ) (name : List ℕ) (a b : TrayState) where
@@ -122,4 +122,4 @@ may_hold page names count a b (inr there) = inr (record { plate = there.0; known
 -- a look after the last page keeps the tray
 pub ends_keep : (pages : ℕ) (names : List (List ℕ)) (a b : TrayState) (result : Result (Unit {0}) TraprunError) → ExpectsEnd pages names a b result → KeepsTray a b × MayHold names pages a b
 ends_keep pages names a b (Ok nothing) looks = (looks.1.keeps, may_hold pages names (length names) a b looks.1.in_hand)
-ends_keep pages names a b (Err stop) looks = (looks.keeps, may_hold pages names (length names) a b looks.in_hand)
+ends_keep pages names a b (Err error) looks = (looks.keeps, may_hold pages names (length names) a b looks.in_hand)

@@ -4,7 +4,7 @@ use Rattle.std.proofs.Math.Seq.{take-append-add}
 use Rattle.std.proofs.lemmas.List.{append_assoc, length-append, map-append}
 use Rattle.std.proofs.lemmas.Option.{same_Some}
 use Rattle.std.proofs.lemmas.List.Elements.{All-cons}
-use Rattle.outside.specs.Causes.{Asks, AsksPrefix}
+use Rattle.outside.specs.ErrorCases.{Asks, AsksPrefix}
 use Rattle.outside.specs.Tray.{TrayState, KeepsTray}
 use Rattle.outside.specs.Rack.{RackState, KeepsRack, put}
 use Rattle.outside.proofs.Names.{asks_none, asks_then}
@@ -24,19 +24,19 @@ use Rattle.page_files.proofs.Steps.{wrote_none}
 use Rattle.traprun_cli.specs.Gathering.{IsJobOf, IsPageMade, StopsPage}
 use Rattle.traprun_cli.specs.InHand.{InHand, MayHold}
 use Rattle.traprun_cli.specs.Reading.{AreUnbroken}
-use Rattle.page_files.proofs.LookLemmas.{held_before, taken_before}
-use Rattle.traprun_cli.specs.declared.stop.TraprunError.{TraprunError}
-use Rattle.traprun_cli.specs.declared.stop.TraprunError.TheVariants.{AtPage, Ends}
+use Rattle.page_files.proofs.LookLemmas.{stored_before, taken_before}
+use Rattle.traprun_cli.specs.declared.error.TraprunError.{TraprunError}
+use Rattle.traprun_cli.specs.declared.error.TraprunError.TheVariants.{AtPage, Ends}
 use Rattle.traprun_cli.specs.Images.{page_decoder}
 use Rattle.traprun_cli.specs.Pages.{AreMade, pages_of, run_files, run_names, run_reads, target_at}
 use Rattle.traprun_cli.specs.RunVerdicts.{ComesTo, PlateEnds}
-use Rattle.refusals.specs.declared.refusal.Refusal.TheVariants.{Read, Write}
+use Rattle.common_errors.specs.declared.common.CommonError.TheVariants.{Read, Write}
 use Rattle.trap_report.specs.Report.{report_of}
 use Rattle.page_files.specs.Verdicts.{Targets, IsVerdict, Refused, outcome, written_names}
 
-put_both : (files more : List File) (held : List ℕ → Option (List ℕ)) → put_all (files ++ more) held ≡ put_all more (put_all files held)
-put_both [] more held = refl
-put_both (f ∷ fs) more held = put_both fs more (put f.name f.bytes held)
+put_both : (files more : List File) (stored : List ℕ → Option (List ℕ)) → put_all (files ++ more) stored ≡ put_all more (put_all files stored)
+put_both [] more stored = refl
+put_both (f ∷ fs) more stored = put_both fs more (put f.name f.bytes stored)
 
 -- names that were handed out, and then a prefix of others
 pub prefix_more : (a m b : Option (List (List ℕ))) (xs ys : List (List ℕ)) → Asks a m xs → AsksPrefix m b ys → AsksPrefix a b (xs ++ ys)
@@ -74,7 +74,7 @@ pub no_page_done : (source : Sources) (target : Targets) (t b : TrayState) (r : 
 no_page_done source target t b r keeps calm asked few = record {
   tray_keeps = keeps;
   rack_keeps = record { tells = refl; faults = omega arith };
-  told = λ tells. refl;
+  reported = λ tells. refl;
   in_hand = inl few;
   written = record {
     valid = λ k d within. absurd (omega arith);
@@ -87,20 +87,20 @@ no_page_done source target t b r keeps calm asked few = record {
   };
 }
 
-held_up : (source : Sources) (n k : ℕ) (t b : TrayState) → n ≤ k → InHand source n t b → InHand source k t b
-held_up source n k t b le (inl job) = inl job
-held_up source n k t b le (inr (inl same)) = inr (inl same)
-held_up source n k t b le (inr (inr held)) = inr (inr (record { plate = held.plate; known = held.known; page = held.page; within = omega (arith, held.within); takes = held.takes }))
+stored_up : (source : Sources) (n k : ℕ) (t b : TrayState) → n ≤ k → InHand source n t b → InHand source k t b
+stored_up source n k t b le (inl job) = inl job
+stored_up source n k t b le (inr (inl same)) = inr (inl same)
+stored_up source n k t b le (inr (inr stored)) = inr (inr (record { plate = stored.plate; known = stored.known; page = stored.page; within = omega (arith, stored.within); takes = stored.takes }))
 
 -- what is in hand, seen from the tray as it was at first
 may_from : (source : Sources) (n k : ℕ) (t b c : TrayState) → n ≤ k → KeepsTray t b → InHand source n t b → MayHold source.inputs k b c → InHand source k t c
-may_from source n k t b c le keeps before (inl same) = subst (λ (x : TrayState). InHand source k t x) (sym same) (held_up source n k t b le before)
-may_from source n k t b c le keeps before (inr held) = inr (inr (record {
-  plate = held.plate;
-  known = held.known;
-  page = held.page;
-  within = held.within;
-  takes = record { bytes = held.takes.bytes; taken = λ begun tells. ap (λ (files : List ℕ → Option (List ℕ)). files (name_at source.inputs held.plate)) (sym keeps.file) ∙ held.takes.taken begun (keeps.tells ∙ tells); few = held.takes.few };
+may_from source n k t b c le keeps before (inl same) = subst (λ (x : TrayState). InHand source k t x) (sym same) (stored_up source n k t b le before)
+may_from source n k t b c le keeps before (inr stored) = inr (inr (record {
+  plate = stored.plate;
+  known = stored.known;
+  page = stored.page;
+  within = stored.within;
+  takes = record { bytes = stored.takes.bytes; taken = λ begun tells. ap (λ (files : List ℕ → Option (List ℕ)). files (name_at source.inputs stored.plate)) (sym keeps.file) ∙ stored.takes.taken begun (keeps.tells ∙ tells); few = stored.takes.few };
 }))
 
 -- a fact of the files, seen from the tray as it was at first
@@ -121,7 +121,7 @@ module _ (source : Sources) (target : Targets) (t b c : TrayState) (r r1 r2 : Ra
   asked_more names asked = asks_then t.asked b.asked c.asked (run_reads source (length pages)) names done.written.asked asked
 
   pub hold_more : MayHold source.inputs (length pages) b c → InHand source (length pages) t c
-  hold_more held = may_from source (length pages) (length pages) t b c (omega arith) done.tray_keeps done.in_hand held
+  hold_more stored = may_from source (length pages) (length pages) t b c (omega arith) done.tray_keeps done.in_hand stored
 
   pub record More : Type 0 where
     pub page : PageParts
@@ -133,8 +133,8 @@ module _ (source : Sources) (target : Targets) (t b c : TrayState) (r r1 r2 : Ra
     more = record {
       tray_keeps = kept_tray t b c done.tray_keeps keeps;
       rack_keeps = kept_then r r1 r2 done.rack_keeps steps.rack_keeps;
-      told = λ tells. steps.told (done.rack_keeps.tells ∙ tells) ∙ done.told tells;
-      in_hand = held_up source (length pages) (suc (length pages)) t c (omega arith) (hold_more steps.in_hand);
+      reported = λ tells. steps.reported (done.rack_keeps.tells ∙ tells) ∙ done.reported tells;
+      in_hand = stored_up source (length pages) (suc (length pages)) t c (omega arith) (hold_more steps.in_hand);
       written = record {
         valid = valid_more page valid;
         made = made_more page made;
@@ -146,7 +146,7 @@ module _ (source : Sources) (target : Targets) (t b c : TrayState) (r r1 r2 : Ra
       };
     };
   }
-  written_by steps (AnswersStep.stopped stop is same stops) = absurd (let e : ◌≡◌ {A = Result (Unit {0}) TraprunError} (Ok tt) (Err stop) = is in cc)
+  written_by steps (AnswersStep.stopped error is same stops) = absurd (let e : ◌≡◌ {A = Result (Unit {0}) TraprunError} (Ok tt) (Err error) = is in cc)
   written_by steps (AnswersStep.unwritten page file is valid made breaks created once) = absurd (let e : ◌≡◌ {A = Result (Unit {0}) TraprunError} (Ok tt) (Err (AtPage (length pages) (Write file))) = is in cc)
 
   -- one page more
@@ -157,22 +157,22 @@ module _ (source : Sources) (target : Targets) (t b c : TrayState) (r r1 r2 : Ra
     comes_to : IsTrue t.tells → ComesTo t.file source (length pages)
     comes_to tells = record { count = count; has = (bytes, known tells, has); within = within; pages = pages; number = refl; made = done.written.made tells }
 
-    stopped_by : (stop : TraprunError) → r2 ≡ r1 → InHand source (length pages) t c → StopsPage source (length pages) b c stop → AnswersRun source target t c r r2 (Err stop)
-    stopped_by stop same in_hand (StopsPage.refused refusal is which passes asked verdict) =
+    stopped_by : (error : TraprunError) → r2 ≡ r1 → InHand source (length pages) t c → StopsPage source (length pages) b c error → AnswersRun source target t c r r2 (Err error)
+    stopped_by error same in_hand (StopsPage.refused common_error is which passes asked verdict) =
         subst (λ (s : TraprunError). AnswersRun source target t c r r2 (Err s)) (sym is)
-        (AnswersRun.refused pages b (AtPage (length pages) refusal) refl which (subst (λ (x : RackState). Written source target t b r x pages) (sym same) done.written)
+        (AnswersRun.refused pages b (AtPage (length pages) common_error) refl which (subst (λ (x : RackState). Written source target t b r x pages) (sym same) done.written)
         refl
-        (count_then (Unit {0}) (Unit {0}) t b c refusal done.written.calm passes)
+        (count_then (Unit {0}) (Unit {0}) t b c common_error done.written.calm passes)
         (asked_more _ asked)
-        (λ tells. (comes_to tells, from_first t b (λ files. IsVerdict (page_decoder (length pages)) files source (target_at target (length pages)) (Refused refusal)) done.tray_keeps (λ there. verdict there (target_at target (length pages))) tells)) in_hand)
-    stopped_by stop same in_hand (StopsPage.ends plate is calm asked ends) =
+        (λ tells. (comes_to tells, from_first t b (λ files. IsVerdict (page_decoder (length pages)) files source (target_at target (length pages)) (Refused common_error)) done.tray_keeps (λ there. verdict there (target_at target (length pages))) tells)) in_hand)
+    stopped_by error same in_hand (StopsPage.ends plate is calm asked ends) =
         subst (λ (s : TraprunError). AnswersRun source target t c r r2 (Err s)) (sym is)
         (AnswersRun.refused pages b (Ends (length pages) plate) refl (inr refl) (subst (λ (x : RackState). Written source target t b r x pages) (sym same) done.written)
         refl
         (calm ∙ done.written.calm)
         (asked_more _ asked)
         (λ tells. (comes_to tells, from_first t b (λ files. PlateEnds files source (length pages) plate) done.tray_keeps ends tells)) in_hand)
-    stopped_by stop same in_hand (StopsPage.unread plate is rose asked breaks) =
+    stopped_by error same in_hand (StopsPage.unread plate is rose asked breaks) =
         subst (λ (s : TraprunError). AnswersRun source target t c r r2 (Err s)) (sym is)
         (AnswersRun.unread pages b (AtPage (length pages) (Read (Some plate))) refl refl (subst (λ (x : RackState). Written source target t b r x pages) (sym same) done.written)
         (rose_before t.faults b.faults c.faults done.tray_keeps.faults rose)
@@ -182,30 +182,30 @@ module _ (source : Sources) (target : Targets) (t b c : TrayState) (r r1 r2 : Ra
           record {
             job = breaks.job;
             plates = breaks.plates;
-            job_read = λ tells. held_before t b source.job (λ all. (page_decoder (length pages)).job all ≡ Ok breaks.job) done.tray_keeps breaks.job_read tells;
+            job_read = λ tells. stored_before t b source.job (λ all. (page_decoder (length pages)).job all ≡ Ok breaks.job) done.tray_keeps breaks.job_read tells;
             before_it = from_first t b (λ files. AreRead (page_decoder (length pages)) files source.inputs plate breaks.plates) done.tray_keeps breaks.before_it;
             in_hand = taken_before (AreUnbroken (length pages)) t b c (name_at source.inputs plate) done.tray_keeps breaks.in_hand;
           },
         ) in_hand)
-    stopped_by stop same in_hand (StopsPage.no_memory is calm asked) =
+    stopped_by error same in_hand (StopsPage.no_memory is calm asked) =
         subst (λ (s : TraprunError). AnswersRun source target t c r r2 (Err s)) (sym is)
         (AnswersRun.no_memory pages b refl (subst (λ (x : RackState). Written source target t b r x pages) (sym same) done.written) (calm ∙ done.written.calm) (prefix_more t.asked b.asked c.asked (run_reads source (length pages)) source.inputs done.written.asked asked) in_hand)
 
-    step_stopped : (stop : TraprunError) → KeepsRack r1 r2 → InHand source (length pages) t c → AnswersStep source target (length pages) b c r1 r2 (Err stop) → AnswersRun source target t c r r2 (Err stop)
-    step_stopped stop wrote_keeps in_hand (AnswersStep.written page is valid made wrote created finished) = absurd (let e : ◌≡◌ {A = Result (Unit {0}) TraprunError} (Err stop) (Ok tt) = is in cc)
-    step_stopped stop wrote_keeps in_hand (AnswersStep.stopped other is same stops) =
-        let one : other ≡ stop = (let e : ◌≡◌ {A = Result (Unit {0}) TraprunError} (Err stop) (Err other) = is in cc) in
-        stopped_by stop same in_hand (subst (λ (s : TraprunError). StopsPage source (length pages) b c s) one stops)
-    step_stopped stop wrote_keeps in_hand (AnswersStep.unwritten page file is valid made breaks created once) =
+    step_stopped : (error : TraprunError) → KeepsRack r1 r2 → InHand source (length pages) t c → AnswersStep source target (length pages) b c r1 r2 (Err error) → AnswersRun source target t c r r2 (Err error)
+    step_stopped error wrote_keeps in_hand (AnswersStep.written page is valid made wrote created finished) = absurd (let e : ◌≡◌ {A = Result (Unit {0}) TraprunError} (Err error) (Ok tt) = is in cc)
+    step_stopped error wrote_keeps in_hand (AnswersStep.stopped other is same stops) =
+        let one : other ≡ error = (let e : ◌≡◌ {A = Result (Unit {0}) TraprunError} (Err error) (Err other) = is in cc) in
+        stopped_by error same in_hand (subst (λ (s : TraprunError). StopsPage source (length pages) b c s) one stops)
+    step_stopped error wrote_keeps in_hand (AnswersStep.unwritten page file is valid made breaks created once) =
         AnswersRun.unwritten pages b r1 page file is done.written done.rack_keeps wrote_keeps (made.calm ∙ done.written.calm) (asked_more source.inputs made.asked) valid (made_more page made) breaks created (once_before r.faults r1.faults r2.faults done.written.wrote.well once) in_hand
 
     -- the run stops at this page
-    pub run_stopped : (stop : TraprunError) → Steps source target (length pages) b c r1 r2 (Err stop) → Runs source target t c r r2 (Err stop)
-    run_stopped stop steps = record {
+    pub run_stopped : (error : TraprunError) → Steps source target (length pages) b c r1 r2 (Err error) → Runs source target t c r r2 (Err error)
+    run_stopped error steps = record {
       tray_keeps = kept_tray t b c done.tray_keeps keeps;
       rack_keeps = kept_then r r1 r2 done.rack_keeps steps.rack_keeps;
-      told = λ tells. steps.told (done.rack_keeps.tells ∙ tells) ∙ done.told tells;
-      answer = step_stopped stop steps.rack_keeps (hold_more steps.in_hand) steps.answer;
+      reported = λ tells. steps.reported (done.rack_keeps.tells ∙ tells) ∙ done.reported tells;
+      answer = step_stopped error steps.rack_keeps (hold_more steps.in_hand) steps.answer;
     }
 
 -- the job's bytes are those of a later tray too
@@ -219,8 +219,8 @@ module _ (source : Sources) (target : Targets) (bytes : List ℕ) (k : ℕ) (t b
       let more = one_more source target t b c r r1 r2 pages done steps.0 here in
       (more.page ∷ pages, (let e : suc (length pages) ≡ k + 1 = omega arith in e), more.more)
 
-  pub pages_stopped : (count : ℕ) (stop : TraprunError) → pages_of bytes ≡ Ok count → k < count → StepsPage source target bytes k b c r1 r2 (Err stop) → Runs source target t c r r2 (Err stop)
-  pages_stopped count stop has within steps =
-      let here : Steps source target (length pages) b c r1 r2 (Err stop) = subst (λ (n : ℕ). Steps source target n b c r1 r2 (Err stop)) (sym number) (steps.1 (known_then source bytes t b done.tray_keeps known)) in
+  pub pages_stopped : (count : ℕ) (error : TraprunError) → pages_of bytes ≡ Ok count → k < count → StepsPage source target bytes k b c r1 r2 (Err error) → Runs source target t c r r2 (Err error)
+  pages_stopped count error has within steps =
+      let here : Steps source target (length pages) b c r1 r2 (Err error) = subst (λ (n : ℕ). Steps source target n b c r1 r2 (Err error)) (sym number) (steps.1 (known_then source bytes t b done.tray_keeps known)) in
       let below : length pages < count = omega arith in
-      run_stopped source target t b c r r1 r2 pages done steps.0 bytes count known has below stop here
+      run_stopped source target t b c r r1 r2 pages done steps.0 bytes count known has below error here

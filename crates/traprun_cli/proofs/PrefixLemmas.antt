@@ -10,7 +10,7 @@ use Rattle.pgm_plates.specs.Faults.{Decides, FaultAt, IsFault}
 use Rattle.pgm_plates.specs.Plates.{IsPlate, IsPlateFile, raster, spelled}
 use Rattle.pgm_plates.specs.Reading.{IsTruncated}
 use Rattle.pgm_plates.specs.Sequences.{IsSequence, IsOfImage}
-use Rattle.pgm_plates.proofs.Causes.{one_decided}
+use Rattle.pgm_plates.proofs.ErrorCases.{one_decided}
 use Rattle.pgm_plates.proofs.Facts.{cut_or_not, fault_stays, moment_of, no_prefix, not_both}
 use Rattle.pgm_plates.proofs.Moments.{stands_now}
 use Rattle.pgm_plates.proofs.OneSequence.{one_image, some_bytes}

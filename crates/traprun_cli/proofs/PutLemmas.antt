@@ -16,12 +16,12 @@ use Rattle.traprun_cli.specs.Opened.{order_in}
 use Rattle.traprun_cli.specs.Words.{targets_of}
 use Rattle.traprun_cli.specs.declared.words.TraprunArgs.{TraprunArgs}
 use Rattle.traprun_cli.specs.Gathering.{GathersPage, IsPageMade, StopsPage}
-use Rattle.traprun_cli.specs.declared.stop.TraprunError.{TraprunError}
-use Rattle.traprun_cli.specs.declared.stop.TraprunError.TheVariants.{Whole}
+use Rattle.traprun_cli.specs.declared.error.TraprunError.{TraprunError}
+use Rattle.traprun_cli.specs.declared.error.TraprunError.TheVariants.{Whole}
 use Rattle.traprun_cli.specs.Pages.{numbered, target_at}
-use Rattle.traprun_cli.specs.Stops.{stop_at}
-use Rattle.refusals.specs.declared.refusal.Refusal.{Refusal}
-use Rattle.refusals.specs.declared.refusal.Refusal.TheVariants.{Usage, Job, NoDetails, Plate, Page, Read, Write, Memory}
+use Rattle.traprun_cli.specs.Errors.{error_at}
+use Rattle.common_errors.specs.declared.common.CommonError.{CommonError}
+use Rattle.common_errors.specs.declared.common.CommonError.TheVariants.{Usage, Job, NoDetails, Plate, Page, Read, Write, Memory}
 use Rattle.page_files.specs.Verdicts.{Targets, outcome}
 
 unchanged : (a : RackState) → KeepsRack a a
@@ -29,38 +29,38 @@ unchanged a = record { tells = refl; faults = omega arith }
 
 -- There was no memory for the names.
 pub not_put : (target : Targets) (k : ℕ) (page : PageParts) (a : RackState) → IsPage page → PutsPage target k page a a (Err (Whole Memory))
-not_put target k page a valid = record { valid = valid; keeps = unchanged a; told = λ tells. refl; answer = AnswersPutPage.no_memory refl refl }
+not_put target k page a valid = record { valid = valid; keeps = unchanged a; reported = λ tells. refl; answer = AnswersPutPage.no_memory refl refl }
 
 module _ (target : Targets) (k band : ℕ) (page : PageParts) (a b : RackState) where
   -- the page's files are written
   pub page_put : (receipt : Receipt) → PutsOut band (target_at target k) page a b (Ok receipt) → PutsPage target k page a b (Ok tt)
-  page_put receipt put = record { valid = put.valid; keeps = put.keeps; told = put.told; answer = AnswersPutPage.written refl put.answer.1 put.answer.2 put.answer.3 }
+  page_put receipt put = record { valid = put.valid; keeps = put.keeps; reported = put.reported; answer = AnswersPutPage.written refl put.answer.1 put.answer.2 put.answer.3 }
 
-  by_refusal : (refusal : Refusal) → PutsOut band (target_at target k) page a b (Err refusal) → AnswersPut band (target_at target k) page a b (Err refusal) → AnswersPutPage target k page a b (Err (stop_at k refusal))
-  by_refusal (Write file) put answer = AnswersPutPage.unwritten file refl (subst (λ (n : ℕ). Breaks n (outcome (target_at target k) page) file a b) (length-map target.outputs (numbered k)) answer) put.asked put.once
-  by_refusal Memory put answer = AnswersPutPage.no_memory refl answer
-  by_refusal Usage put answer = absurd answer
-  by_refusal (Job fault) put answer = absurd answer
-  by_refusal (NoDetails plate) put answer = absurd answer
-  by_refusal (Plate plate fault) put answer = absurd answer
-  by_refusal (Page fault) put answer = absurd answer
-  by_refusal (Read file) put answer = absurd answer
+  by_error : (common_error : CommonError) → PutsOut band (target_at target k) page a b (Err common_error) → AnswersPut band (target_at target k) page a b (Err common_error) → AnswersPutPage target k page a b (Err (error_at k common_error))
+  by_error (Write file) put answer = AnswersPutPage.unwritten file refl (subst (λ (n : ℕ). Breaks n (outcome (target_at target k) page) file a b) (length-map target.outputs (numbered k)) answer) put.asked put.once
+  by_error Memory put answer = AnswersPutPage.no_memory refl answer
+  by_error Usage put answer = absurd answer
+  by_error (Job fault) put answer = absurd answer
+  by_error (NoDetails plate) put answer = absurd answer
+  by_error (Plate plate fault) put answer = absurd answer
+  by_error (Page fault) put answer = absurd answer
+  by_error (Read file) put answer = absurd answer
 
   -- they are not all written
-  pub page_not_put : (refusal : Refusal) (stop : TraprunError) → stop ≡ stop_at k refusal → PutsOut band (target_at target k) page a b (Err refusal) → PutsPage target k page a b (Err stop)
-  page_not_put refusal stop same put = record {
+  pub page_not_put : (common_error : CommonError) (error : TraprunError) → error ≡ error_at k common_error → PutsOut band (target_at target k) page a b (Err common_error) → PutsPage target k page a b (Err error)
+  page_not_put common_error error same put = record {
     valid = put.valid;
     keeps = put.keeps;
-    told = put.told;
-    answer = subst (λ (s : TraprunError). AnswersPutPage target k page a b (Err s)) (sym same) (by_refusal refusal put put.answer);
+    reported = put.reported;
+    answer = subst (λ (s : TraprunError). AnswersPutPage target k page a b (Err s)) (sym same) (by_error common_error put put.answer);
   }
 
 module _ (source : Sources) (target : Targets) (bytes : List ℕ) (k : ℕ) (t t' : TrayState) where
   -- the page could not be made
-  pub not_gathered : (r : RackState) (stop : TraprunError) → GathersPage source bytes k t t' (Err stop) → StepsPage source target bytes k t t' r r (Err stop)
-  not_gathered r stop gathers = (
+  pub not_gathered : (r : RackState) (error : TraprunError) → GathersPage source bytes k t t' (Err error) → StepsPage source target bytes k t t' r r (Err error)
+  not_gathered r error gathers = (
     gathers.keeps,
-    λ known. record { rack_keeps = unchanged r; told = λ tells. refl; in_hand = gathers.in_hand; answer = AnswersStep.stopped stop refl refl (gathers.answer known) },
+    λ known. record { rack_keeps = unchanged r; reported = λ tells. refl; in_hand = gathers.in_hand; answer = AnswersStep.stopped error refl refl (gathers.answer known) },
   )
 
   module _ (page : PageParts) (r r' : RackState) where
@@ -74,13 +74,13 @@ module _ (source : Sources) (target : Targets) (bytes : List ℕ) (k : ℕ) (t t
     pub gathered_and_put : (result : Result (Unit {0}) TraprunError) → GathersPage source bytes k t t' (Ok page) → PutsPage target k page r r' result → StepsPage source target bytes k t t' r r' result
     gathered_and_put result gathers put = (
       gathers.keeps,
-      λ known. record { rack_keeps = put.keeps; told = put.told; in_hand = gathers.in_hand; answer = step_by result put.valid (gathers.answer known) put.answer },
+      λ known. record { rack_keeps = put.keeps; reported = put.reported; in_hand = gathers.in_hand; answer = step_by result put.valid (gathers.answer known) put.answer },
     )
 
 -- the names of a page's files are those that the words give, with its number
-pub files_named : (target : Targets) (k : ℕ) (band : ℕ) (page : PageParts) (a b : RackState) (result : Result Receipt Refusal) (outputs : List (List ℕ)) (report : List ℕ) → outputs ≡ map (numbered k) target.outputs → report ≡ numbered k target.report → PutsOut band (targets outputs report) page a b result → PutsOut band (target_at target k) page a b result
-files_named target k band page a b result outputs report named told put =
-    subst (λ (r : List ℕ). PutsOut band (targets (map (numbered k) target.outputs) r) page a b result) told
+pub files_named : (target : Targets) (k : ℕ) (band : ℕ) (page : PageParts) (a b : RackState) (result : Result Receipt CommonError) (outputs : List (List ℕ)) (report : List ℕ) → outputs ≡ map (numbered k) target.outputs → report ≡ numbered k target.report → PutsOut band (targets outputs report) page a b result → PutsOut band (target_at target k) page a b result
+files_named target k band page a b result outputs report named reported put =
+    subst (λ (r : List ℕ). PutsOut band (targets (map (numbered k) target.outputs) r) page a b result) reported
     (subst (λ (o : List (List ℕ)). PutsOut band (targets o report) page a b result) named put)
 
 -- there are as many files as plates

@@ -3,30 +3,30 @@ use Rattle.std.proofs.Common.{◌≡◌, ℕ, ◌<◌, List, [], ◌∷◌, ◌+
 use Rattle.std.proofs.lemmas.Bool.{cases_lt}
 use Rattle.std.proofs.lemmas.Option.{same_Some}
 use Rattle.page_files.specs.Inputs.{Sources, Holds, AreRead, Makes, PlateFails, name_at, plate_at}
-use Rattle.job_pages.specs.declared.run.RunRefusal.{RunRefusal}
-use Rattle.job_pages.specs.declared.run.RunRefusal.TheVariants.{Fault, TooManyPages as HasTooMany, OutOfMemory}
+use Rattle.job_pages.specs.declared.run.RunError.{RunError}
+use Rattle.job_pages.specs.declared.run.RunError.TheVariants.{Fault, TooManyPages as HasTooMany, OutOfMemory}
 use Rattle.page_model.specs.declared.parts.PageParts.{PageParts}
 use Rattle.page_files.specs.Files.{Written}
 use Rattle.pgm_plates.specs.declared.plate.Plate.{Plate as PlateRead}
 use Rattle.pgm_plates.specs.declared.plate.PlateFault.{PlateFault}
 use Rattle.job_reader.specs.declared.job.Job.{Job as JobRead}
 use Rattle.ps_tokens.specs.declared.faults.JobFault.{JobFault}
-use Rattle.traprun_cli.specs.declared.stop.TraprunError.{TraprunError}
-use Rattle.traprun_cli.specs.declared.stop.TraprunError.TheVariants.{Whole, TooManyPages, AtPage, Ends, Extra}
+use Rattle.traprun_cli.specs.declared.error.TraprunError.{TraprunError}
+use Rattle.traprun_cli.specs.declared.error.TraprunError.TheVariants.{Whole, TooManyPages, AtPage, Ends, Extra}
 use Rattle.traprun_cli.specs.Images.{HasImage, HasImageFault, HasNoImage, page_decoder}
 use Rattle.traprun_cli.specs.Pages.{AreMade, pages_of, run_files, target_at}
 use Rattle.traprun_cli.specs.RunVerdicts.{RunVerdict, HasPages, ComesTo, PlateEnds, AllMade, AllEnd, LooksLast, IsRunVerdict, OneRunVerdict}
 use Rattle.traprun_cli.specs.RunVerdicts.RunVerdict.{Stopped, Out}
 use Rattle.traprun_cli.proofs.ImageVerdictLemmas.{page_laws, image_or_end, image_or_fault, fault_or_end, fault_one}
-use Rattle.refusals.specs.declared.refusal.Refusal.{Refusal}
-use Rattle.refusals.specs.declared.refusal.Refusal.TheVariants.{Usage, Job, NoDetails, Plate, Page, Read, Write, Memory}
+use Rattle.common_errors.specs.declared.common.CommonError.{CommonError}
+use Rattle.common_errors.specs.declared.common.CommonError.TheVariants.{Usage, Job, NoDetails, Plate, Page, Read, Write, Memory}
 use Rattle.page_files.specs.Verdicts.{Verdict, Targets, IsVerdict, outcome}
 use Rattle.page_files.specs.Verdicts.Verdict.{Refused, Out as PageOut}
 use Rattle.page_files.proofs.VerdictLemmas.{one_verdict}
 
 -- A file has one list of bytes.
-held_both : (files : List ℕ → Option (List ℕ)) (name : List ℕ) (F G : List ℕ → Type 0) → Holds files name F → Holds files name G → (bytes : List ℕ) × F bytes × G bytes
-held_both files name F G one two =
+stored_both : (files : List ℕ → Option (List ℕ)) (name : List ℕ) (F G : List ℕ → Type 0) → Holds files name F → Holds files name G → (bytes : List ℕ) × F bytes × G bytes
+stored_both files name F G one two =
     let same : two.0 ≡ one.0 = same_Some two.0 one.0 (sym two.1 ∙ one.1) in
     (one.0, one.2, subst G same two.2)
 
@@ -42,27 +42,27 @@ order j k = elim (cases_lt j k) [
   | inr not_less ↦ elim (cases_lt k j) [ inl is ↦ more is | inr other ↦ same (omega arith) ]
 ]
 
--- the stop that a whole job's refusal is
-abbrev pub stop_of : RunRefusal → TraprunError
-stop_of (Fault fault) = Whole (Job fault)
-stop_of (HasTooMany at) = TooManyPages at
-stop_of OutOfMemory = Whole Memory
+-- the stop that a whole job's error is
+abbrev pub error_of : RunError → TraprunError
+error_of (Fault fault) = Whole (Job fault)
+error_of (HasTooMany at) = TooManyPages at
+error_of OutOfMemory = Whole Memory
 
 module _ (files : List ℕ → Option (List ℕ)) (source : Sources) (target : Targets) where
-  abbrev Says : Result ℕ RunRefusal → Type 0
+  abbrev Says : Result ℕ RunError → Type 0
   Says said = Holds files source.job (λ bytes. pages_of bytes ≡ said)
 
-  one_saying : (r s : Result ℕ RunRefusal) → Says r → Says s → r ≡ s
-  one_saying r s a b = let both = held_both files source.job (λ bytes. pages_of bytes ≡ r) (λ bytes. pages_of bytes ≡ s) a b in sym both.1 ∙ both.2
+  one_saying : (r s : Result ℕ RunError) → Says r → Says s → r ≡ s
+  one_saying r s a b = let both = stored_both files source.job (λ bytes. pages_of bytes ≡ r) (λ bytes. pages_of bytes ≡ s) a b in sym both.1 ∙ both.2
 
   one_count : (m n : ℕ) → HasPages files source m → HasPages files source n → m ≡ n
-  one_count m n a b = let same : ◌≡◌ {A = Result ℕ RunRefusal} (Ok m) (Ok n) = one_saying (Ok m) (Ok n) a b in cc
+  one_count m n a b = let same : ◌≡◌ {A = Result ℕ RunError} (Ok m) (Ok n) = one_saying (Ok m) (Ok n) a b in cc
 
-  pages_or_refusal : (m : ℕ) (r : RunRefusal) → HasPages files source m → Says (Err r) → ⊥
-  pages_or_refusal m r a b = let same : ◌≡◌ {A = Result ℕ RunRefusal} (Ok m) (Err r) = one_saying (Ok m) (Err r) a b in absurd cc
+  pages_or_error : (m : ℕ) (r : RunError) → HasPages files source m → Says (Err r) → ⊥
+  pages_or_error m r a b = let same : ◌≡◌ {A = Result ℕ RunError} (Ok m) (Err r) = one_saying (Ok m) (Err r) a b in absurd cc
 
-  one_refusal : (r s : RunRefusal) → Says (Err r) → Says (Err s) → r ≡ s
-  one_refusal r s a b = let same : ◌≡◌ {A = Result ℕ RunRefusal} (Err r) (Err s) = one_saying (Err r) (Err s) a b in cc
+  one_reason : (r s : RunError) → Says (Err r) → Says (Err s) → r ≡ s
+  one_reason r s a b = let same : ◌≡◌ {A = Result ℕ RunError} (Err r) (Err s) = one_saying (Err r) (Err s) a b in cc
 
   -- a page that is made
   abbrev Made : ℕ → Type 0
@@ -89,39 +89,39 @@ module _ (files : List ℕ → Option (List ℕ)) (source : Sources) (target : T
       let same : PageOut (outcome (target_at target k) p) ≡ PageOut (outcome (target_at target k) q) = one_page_verdict k (PageOut (outcome (target_at target k) p)) (PageOut (outcome (target_at target k) q)) (p, a, refl) (q, b, refl) in
       cc
 
-  made_or_refused : (k : ℕ) (refusal : Refusal) → Made k → PageSays k (Refused refusal) → ⊥
-  made_or_refused k refusal made is =
-      let same : PageOut (outcome (target_at target k) made.0) ≡ Refused refusal = one_page_verdict k (PageOut (outcome (target_at target k) made.0)) (Refused refusal) (made.0, made.1, refl) is in
+  made_or_refused : (k : ℕ) (common_error : CommonError) → Made k → PageSays k (Refused common_error) → ⊥
+  made_or_refused k common_error made is =
+      let same : PageOut (outcome (target_at target k) made.0) ≡ Refused common_error = one_page_verdict k (PageOut (outcome (target_at target k) made.0)) (Refused common_error) (made.0, made.1, refl) is in
       absurd cc
 
   -- a plate that was read does not end
   read_or_end : (k n plate : ℕ) (plates : List PlateRead) → plate < n → AreRead (page_decoder k) files source.inputs n plates → Holds files (name_at source.inputs plate) (HasNoImage k) → ⊥
   read_or_end k n plate plates within read ended =
-      let both = held_both files (name_at source.inputs plate) (λ bytes. HasImage k bytes (plate_at plates plate)) (HasNoImage k) (read.each plate within) ended in
+      let both = stored_both files (name_at source.inputs plate) (λ bytes. HasImage k bytes (plate_at plates plate)) (HasNoImage k) (read.each plate within) ended in
       image_or_end k both.0 (plate_at plates plate) both.1 both.2
 
-  makes_or_ends : (k plate : ℕ) (made : Result PageParts Refusal) → Makes (page_decoder k) files source made → PlateEnds files source k plate → ⊥
+  makes_or_ends : (k plate : ℕ) (made : Result PageParts CommonError) → Makes (page_decoder k) files source made → PlateEnds files source k plate → ⊥
   makes_or_ends k plate made makes ends = read_or_end k (length source.inputs) plate makes.1 ends.known makes.2.plates_read ends.ended
 
   fails_or_ends : (k p plate : ℕ) (fault : PlateFault) → PlateFails (page_decoder k) files source p fault → PlateEnds files source k plate → ⊥
   fails_or_ends k p plate fault fails ends = elim (order p plate) [
     | less before ↦
-        let both = held_both files (name_at source.inputs p) (λ bytes. HasImage k bytes (plate_at ends.plates p)) (λ bytes. HasImageFault k bytes fault) (ends.before.each p before) fails.broken in
+        let both = stored_both files (name_at source.inputs p) (λ bytes. HasImage k bytes (plate_at ends.plates p)) (λ bytes. HasImageFault k bytes fault) (ends.before.each p before) fails.broken in
         image_or_fault k both.0 (plate_at ends.plates p) fault both.1 both.2
     | same one ↦
         let there = subst (λ (n : ℕ). Holds files (name_at source.inputs n) (λ bytes. HasImageFault k bytes fault)) one fails.broken in
-        let both = held_both files (name_at source.inputs plate) (λ bytes. HasImageFault k bytes fault) (HasNoImage k) there ends.ended in
+        let both = stored_both files (name_at source.inputs plate) (λ bytes. HasImageFault k bytes fault) (HasNoImage k) there ends.ended in
         fault_or_end k both.0 fault both.1 both.2
     | more suffix ↦ read_or_end k p plate fails.plates suffix fails.before ends.ended
   ]
 
   job_or_ends : (k plate : ℕ) (fault : JobFault) → Holds files source.job (λ bytes. (page_decoder k).job bytes ≡ Err fault) → PlateEnds files source k plate → ⊥
   job_or_ends k plate fault fails ends =
-      let both = held_both files source.job (λ bytes. (page_decoder k).job bytes ≡ Ok ends.job) (λ bytes. (page_decoder k).job bytes ≡ Err fault) ends.job_read fails in
+      let both = stored_both files source.job (λ bytes. (page_decoder k).job bytes ≡ Ok ends.job) (λ bytes. (page_decoder k).job bytes ≡ Err fault) ends.job_read fails in
       let same : ◌≡◌ {A = Result JobRead JobFault} (Ok ends.job) (Err fault) = sym both.1 ∙ both.2 in
       absurd cc
 
-  refused_or_ends : (k plate : ℕ) (refusal : Refusal) → PageSays k (Refused refusal) → PlateEnds files source k plate → ⊥
+  refused_or_ends : (k plate : ℕ) (common_error : CommonError) → PageSays k (Refused common_error) → PlateEnds files source k plate → ⊥
   refused_or_ends k plate (Job fault) is ends = job_or_ends k plate fault is ends
   refused_or_ends k plate (Plate p fault) is ends = fails_or_ends k p plate fault is ends
   refused_or_ends k plate (NoDetails p) is ends = makes_or_ends k plate (Err (NoDetails p)) is ends
@@ -139,38 +139,38 @@ module _ (files : List ℕ → Option (List ℕ)) (source : Sources) (target : T
   ]
 
   -- what stops a run at a page
-  data Stops (k : ℕ) (stop : TraprunError) : Type 0 where
-    refused : (refusal : Refusal) → stop ≡ AtPage k refusal → PageSays k (Refused refusal) → Stops k stop
-    ends : (plate : ℕ) → stop ≡ Ends k plate → PlateEnds files source k plate → Stops k stop
+  data Errors (k : ℕ) (error : TraprunError) : Type 0 where
+    refused : (common_error : CommonError) → error ≡ AtPage k common_error → PageSays k (Refused common_error) → Errors k error
+    ends : (plate : ℕ) → error ≡ Ends k plate → PlateEnds files source k plate → Errors k error
 
-  made_or_stops : (k : ℕ) (stop : TraprunError) → Made k → Stops k stop → ⊥
-  made_or_stops k stop made (refused refusal is says) = made_or_refused k refusal made says
-  made_or_stops k stop made (ends plate is ended) = makes_or_ends k plate (Ok made.0) made.1 ended
+  made_or_stops : (k : ℕ) (error : TraprunError) → Made k → Errors k error → ⊥
+  made_or_stops k error made (refused common_error is says) = made_or_refused k common_error made says
+  made_or_stops k error made (ends plate is ended) = makes_or_ends k plate (Ok made.0) made.1 ended
 
-  same_stop : (k : ℕ) (s t : TraprunError) → Stops k s → Stops k t → s ≡ t
-  same_stop k s t (refused r is a) (refused q also b) =
+  same_error : (k : ℕ) (s t : TraprunError) → Errors k s → Errors k t → s ≡ t
+  same_error k s t (refused r is a) (refused q also b) =
       let same : Refused r ≡ Refused q = one_page_verdict k (Refused r) (Refused q) a b in
       let one : r ≡ q = cc in
-      is ∙ ap (λ (x : Refusal). AtPage k x) one ∙ sym also
-  same_stop k s t (refused r is a) (ends p also b) = absurd (refused_or_ends k p r a b)
-  same_stop k s t (ends p is a) (refused r also b) = absurd (refused_or_ends k p r b a)
-  same_stop k s t (ends p is a) (ends q also b) = is ∙ ap (λ (n : ℕ). Ends k n) (one_end k p q a b) ∙ sym also
+      is ∙ ap (λ (x : CommonError). AtPage k x) one ∙ sym also
+  same_error k s t (refused r is a) (ends p also b) = absurd (refused_or_ends k p r a b)
+  same_error k s t (ends p is a) (refused r also b) = absurd (refused_or_ends k p r b a)
+  same_error k s t (ends p is a) (ends q also b) = is ∙ ap (λ (n : ℕ). Ends k n) (one_end k p q a b) ∙ sym also
 
   -- a page before one that the run comes to does not stop it
-  stops_later : (j k : ℕ) (stop : TraprunError) → ComesTo files source k → Stops j stop → j < k → ⊥
-  stops_later j k stop comes stops before = made_or_stops j stop (made_at comes.pages j comes.made (omega (arith, comes.number))) stops
+  stops_later : (j k : ℕ) (error : TraprunError) → ComesTo files source k → Errors j error → j < k → ⊥
+  stops_later j k error comes stops before = made_or_stops j error (made_at comes.pages j comes.made (omega (arith, comes.number))) stops
 
-  one_stop : (j k : ℕ) (s t : TraprunError) → ComesTo files source j → ComesTo files source k → Stops j s → Stops k t → s ≡ t
-  one_stop j k s t first second a b = elim (order j k) [
+  one_error : (j k : ℕ) (s t : TraprunError) → ComesTo files source j → ComesTo files source k → Errors j s → Errors k t → s ≡ t
+  one_error j k s t first second a b = elim (order j k) [
     | less before ↦ absurd (stops_later j k s second a before)
-    | same one ↦ same_stop k s t (subst (λ (n : ℕ). Stops n s) one a) b
+    | same one ↦ same_error k s t (subst (λ (n : ℕ). Errors n s) one a) b
     | more suffix ↦ absurd (stops_later k j t first b suffix)
   ]
 
-  stops_or_all : (k : ℕ) (stop : TraprunError) → ComesTo files source k → Stops k stop → AllMade files source → ⊥
-  stops_or_all k stop comes stops all =
+  stops_or_all : (k : ℕ) (error : TraprunError) → ComesTo files source k → Errors k error → AllMade files source → ⊥
+  stops_or_all k error comes stops all =
       let count : comes.count ≡ length all.pages = one_count comes.count (length all.pages) comes.has all.has in
-      made_or_stops k stop (made_at all.pages k all.made (omega (arith, comes.within))) stops
+      made_or_stops k error (made_at all.pages k all.made (omega (arith, comes.within))) stops
 
   same_files : (ps qs : List PageParts) → AreMade files source ps → AreMade files source qs → length ps ≡ length qs → run_files target ps ≡ run_files target qs
   same_files [] [] a b count = refl
@@ -187,33 +187,33 @@ module _ (files : List ℕ → Option (List ℕ)) (source : Sources) (target : T
   all_same a b = one_count (length a.pages) (length b.pages) a.has b.has
 
   -- what stops a run after its last page
-  data Last (stop : TraprunError) : Type 0 where
-    fails : (plate : ℕ) (fault : PlateFault) → stop ≡ Whole (Plate plate fault) → LooksLast files source plate (λ count bytes. HasImageFault count bytes fault) → Last stop
-    extra : (plate : ℕ) → stop ≡ Extra plate → LooksLast files source plate (λ count bytes. (another : PlateRead) × HasImage count bytes another) → Last stop
+  data Last (error : TraprunError) : Type 0 where
+    fails : (plate : ℕ) (fault : PlateFault) → error ≡ Whole (Plate plate fault) → LooksLast files source plate (λ count bytes. HasImageFault count bytes fault) → Last error
+    extra : (plate : ℕ) → error ≡ Extra plate → LooksLast files source plate (λ count bytes. (another : PlateRead) × HasImage count bytes another) → Last error
 
-  all_of : (stop : TraprunError) → Last stop → AllMade files source
-  all_of stop (fails plate fault is looks) = looks.all
-  all_of stop (extra plate is looks) = looks.all
+  all_of : (error : TraprunError) → Last error → AllMade files source
+  all_of error (fails plate fault is looks) = looks.all
+  all_of error (extra plate is looks) = looks.all
 
   -- a plate whose file ends is not the one that is refused
   fails_or_ended : (count plate : ℕ) (fault : PlateFault) → Holds files (name_at source.inputs plate) (λ bytes. HasImageFault count bytes fault) → Holds files (name_at source.inputs plate) (HasNoImage count) → ⊥
   fails_or_ended count plate fault a b =
-      let both = held_both files (name_at source.inputs plate) (λ bytes. HasImageFault count bytes fault) (HasNoImage count) a b in
+      let both = stored_both files (name_at source.inputs plate) (λ bytes. HasImageFault count bytes fault) (HasNoImage count) a b in
       fault_or_end count both.0 fault both.1 both.2
 
   extra_or_ended : (count plate : ℕ) → Holds files (name_at source.inputs plate) (λ bytes. (another : PlateRead) × HasImage count bytes another) → Holds files (name_at source.inputs plate) (HasNoImage count) → ⊥
   extra_or_ended count plate a b =
-      let both = held_both files (name_at source.inputs plate) (λ bytes. (another : PlateRead) × HasImage count bytes another) (HasNoImage count) a b in
+      let both = stored_both files (name_at source.inputs plate) (λ bytes. (another : PlateRead) × HasImage count bytes another) (HasNoImage count) a b in
       image_or_end count both.0 both.1.0 both.1.1 both.2
 
   extra_or_fails : (count plate : ℕ) (fault : PlateFault) → Holds files (name_at source.inputs plate) (λ bytes. (another : PlateRead) × HasImage count bytes another) → Holds files (name_at source.inputs plate) (λ bytes. HasImageFault count bytes fault) → ⊥
   extra_or_fails count plate fault a b =
-      let both = held_both files (name_at source.inputs plate) (λ bytes. (another : PlateRead) × HasImage count bytes another) (λ bytes. HasImageFault count bytes fault) a b in
+      let both = stored_both files (name_at source.inputs plate) (λ bytes. (another : PlateRead) × HasImage count bytes another) (λ bytes. HasImageFault count bytes fault) a b in
       image_or_fault count both.0 both.1.0 fault both.1.1 both.2
 
   same_fault : (count plate : ℕ) (f g : PlateFault) → Holds files (name_at source.inputs plate) (λ bytes. HasImageFault count bytes f) → Holds files (name_at source.inputs plate) (λ bytes. HasImageFault count bytes g) → f ≡ g
   same_fault count plate f g a b =
-      let both = held_both files (name_at source.inputs plate) (λ bytes. HasImageFault count bytes f) (λ bytes. HasImageFault count bytes g) a b in
+      let both = stored_both files (name_at source.inputs plate) (λ bytes. HasImageFault count bytes f) (λ bytes. HasImageFault count bytes g) a b in
       fault_one count both.0 f g both.1 both.2
 
   abbrev At : ℕ → ℕ → (ℕ → List ℕ → Type 0) → Type 0
@@ -256,15 +256,15 @@ module _ (files : List ℕ → Option (List ℕ)) (source : Sources) (target : T
       let one : p ≡ q = one_plate_last p q More More extra_or_ended extra_or_ended a b in
       is ∙ ap (λ (n : ℕ). Extra n) one ∙ sym also
 
-  ended_or_last : (stop : TraprunError) (all : AllMade files source) → AllEnd files source (length all.pages) (length source.inputs) → Last stop → ⊥
-  ended_or_last stop all ended (fails p f is a) = fails_or_ended (length a.all.pages) p f a.here (subst (λ (n : ℕ). Holds files (name_at source.inputs p) (HasNoImage n)) (all_same all a.all) (ended p a.known))
-  ended_or_last stop all ended (extra p is a) = extra_or_ended (length a.all.pages) p a.here (subst (λ (n : ℕ). Holds files (name_at source.inputs p) (HasNoImage n)) (all_same all a.all) (ended p a.known))
+  ended_or_last : (error : TraprunError) (all : AllMade files source) → AllEnd files source (length all.pages) (length source.inputs) → Last error → ⊥
+  ended_or_last error all ended (fails p f is a) = fails_or_ended (length a.all.pages) p f a.here (subst (λ (n : ℕ). Holds files (name_at source.inputs p) (HasNoImage n)) (all_same all a.all) (ended p a.known))
+  ended_or_last error all ended (extra p is a) = extra_or_ended (length a.all.pages) p a.here (subst (λ (n : ℕ). Holds files (name_at source.inputs p) (HasNoImage n)) (all_same all a.all) (ended p a.known))
 
   -- A verdict is that of the whole job, of a page, of the last look, or what is written.
   data View (v : RunVerdict) : Type 0 where
-    of_job : (r : RunRefusal) → v ≡ Stopped (stop_of r) → Says (Err r) → View v
-    of_page : (k : ℕ) (stop : TraprunError) → v ≡ Stopped stop → ComesTo files source k → Stops k stop → View v
-    of_last : (stop : TraprunError) → v ≡ Stopped stop → Last stop → View v
+    of_job : (r : RunError) → v ≡ Stopped (error_of r) → Says (Err r) → View v
+    of_page : (k : ℕ) (error : TraprunError) → v ≡ Stopped error → ComesTo files source k → Errors k error → View v
+    of_last : (error : TraprunError) → v ≡ Stopped error → Last error → View v
     of_out : (all : AllMade files source) → AllEnd files source (length all.pages) (length source.inputs) → v ≡ Out (run_files target all.pages) → View v
 
   view : (v : RunVerdict) → IsRunVerdict files source target v → View v
@@ -277,25 +277,25 @@ module _ (files : List ℕ → Option (List ℕ)) (source : Sources) (target : T
   view (Stopped (Whole (Write file))) is = absurd is
   view (Stopped (Whole Memory)) is = absurd is
   view (Stopped (TooManyPages at)) is = of_job (HasTooMany at) refl is
-  view (Stopped (AtPage k refusal)) is = of_page k (AtPage k refusal) refl is.0 (refused refusal refl is.1)
+  view (Stopped (AtPage k common_error)) is = of_page k (AtPage k common_error) refl is.0 (refused common_error refl is.1)
   view (Stopped (Ends k plate)) is = of_page k (Ends k plate) refl is.0 (ends plate refl is.1)
   view (Stopped (Extra plate)) is = of_last (Extra plate) refl (extra plate refl is)
   view (Out written) is = of_out is.0 is.1 (ap (λ (w : List Written). Out w) is.2)
 
   same_verdict : (v w : RunVerdict) → View v → View w → v ≡ w
-  same_verdict v w (of_job r is a) (of_job s also b) = is ∙ ap (λ (x : RunRefusal). Stopped (stop_of x)) (one_refusal r s a b) ∙ sym also
-  same_verdict v w (of_job r is a) (of_page k stop also comes b) = absurd (pages_or_refusal comes.count r comes.has a)
-  same_verdict v w (of_job r is a) (of_last stop also b) = absurd (pages_or_refusal (length (all_of stop b).pages) r (all_of stop b).has a)
-  same_verdict v w (of_job r is a) (of_out all ended also) = absurd (pages_or_refusal (length all.pages) r all.has a)
-  same_verdict v w (of_page k stop is comes a) (of_job s also b) = absurd (pages_or_refusal comes.count s comes.has b)
-  same_verdict v w (of_page k stop is comes a) (of_page j other also reaches b) = is ∙ ap (λ (x : TraprunError). Stopped x) (one_stop k j stop other comes reaches a b) ∙ sym also
-  same_verdict v w (of_page k stop is comes a) (of_last other also b) = absurd (stops_or_all k stop comes a (all_of other b))
-  same_verdict v w (of_page k stop is comes a) (of_out all ended also) = absurd (stops_or_all k stop comes a all)
-  same_verdict v w (of_last stop is a) (of_job s also b) = absurd (pages_or_refusal (length (all_of stop a).pages) s (all_of stop a).has b)
-  same_verdict v w (of_last stop is a) (of_page j other also reaches b) = absurd (stops_or_all j other reaches b (all_of stop a))
-  same_verdict v w (of_last stop is a) (of_last other also b) = is ∙ ap (λ (x : TraprunError). Stopped x) (one_last stop other a b) ∙ sym also
-  same_verdict v w (of_last stop is a) (of_out all ended also) = absurd (ended_or_last stop all ended a)
-  same_verdict v w (of_out all ended is) (of_job s also b) = absurd (pages_or_refusal (length all.pages) s all.has b)
+  same_verdict v w (of_job r is a) (of_job s also b) = is ∙ ap (λ (x : RunError). Stopped (error_of x)) (one_reason r s a b) ∙ sym also
+  same_verdict v w (of_job r is a) (of_page k error also comes b) = absurd (pages_or_error comes.count r comes.has a)
+  same_verdict v w (of_job r is a) (of_last error also b) = absurd (pages_or_error (length (all_of error b).pages) r (all_of error b).has a)
+  same_verdict v w (of_job r is a) (of_out all ended also) = absurd (pages_or_error (length all.pages) r all.has a)
+  same_verdict v w (of_page k error is comes a) (of_job s also b) = absurd (pages_or_error comes.count s comes.has b)
+  same_verdict v w (of_page k error is comes a) (of_page j other also reaches b) = is ∙ ap (λ (x : TraprunError). Stopped x) (one_error k j error other comes reaches a b) ∙ sym also
+  same_verdict v w (of_page k error is comes a) (of_last other also b) = absurd (stops_or_all k error comes a (all_of other b))
+  same_verdict v w (of_page k error is comes a) (of_out all ended also) = absurd (stops_or_all k error comes a all)
+  same_verdict v w (of_last error is a) (of_job s also b) = absurd (pages_or_error (length (all_of error a).pages) s (all_of error a).has b)
+  same_verdict v w (of_last error is a) (of_page j other also reaches b) = absurd (stops_or_all j other reaches b (all_of error a))
+  same_verdict v w (of_last error is a) (of_last other also b) = is ∙ ap (λ (x : TraprunError). Stopped x) (one_last error other a b) ∙ sym also
+  same_verdict v w (of_last error is a) (of_out all ended also) = absurd (ended_or_last error all ended a)
+  same_verdict v w (of_out all ended is) (of_job s also b) = absurd (pages_or_error (length all.pages) s all.has b)
   same_verdict v w (of_out all ended is) (of_page j other also reaches b) = absurd (stops_or_all j other reaches b all)
   same_verdict v w (of_out all ended is) (of_last other also b) = absurd (ended_or_last other all ended b)
   same_verdict v w (of_out all ended is) (of_out every closed also) = is ∙ ap (λ (ws : List Written). Out ws) (same_files all.pages every.pages all.made every.made (all_same all every)) ∙ sym also

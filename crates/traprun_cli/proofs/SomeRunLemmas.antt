@@ -5,8 +5,8 @@ use Rattle.std.proofs.lemmas.Bool.{cases_lt}
 use Rattle.lists.specs.Words.{or_else}
 use Rattle.page_files.specs.Inputs.{Sources, Decoder, Holds, AreRead, Makes, name_at}
 use Rattle.job_pages.specs.declared.statement_spans.StatementSpan.{StatementSpan}
-use Rattle.job_pages.specs.declared.run.RunRefusal.{RunRefusal}
-use Rattle.job_pages.specs.declared.run.RunRefusal.TheVariants.{Fault, TooManyPages as HasTooMany, OutOfMemory}
+use Rattle.job_pages.specs.declared.run.RunError.{RunError}
+use Rattle.job_pages.specs.declared.run.RunError.TheVariants.{Fault, TooManyPages as HasTooMany, OutOfMemory}
 use Rattle.job_pages.specs.Runs.{count_from, excess, objects_in, page_job_of, run_from, run_of, run_unless}
 use Rattle.page_model.specs.declared.parts.PageParts.{PageParts}
 use Rattle.pgm_plates.specs.declared.plate.Plate.{Plate as PlateRead}
@@ -14,48 +14,48 @@ use Rattle.pgm_plates.specs.declared.plate.PlateFault.{PlateFault}
 use Rattle.pgm_plates.specs.declared.plate.PlateFault.TheVariants.{TrailingBytes}
 use Rattle.ps_tokens.specs.declared.faults.JobFault.{JobFault}
 use Rattle.ps_tokens.specs.declared.object.Object.{Object}
-use Rattle.traprun_cli.specs.declared.stop.TraprunError.{TraprunError}
-use Rattle.traprun_cli.specs.declared.stop.TraprunError.TheVariants.{Whole, TooManyPages, AtPage, Ends, Extra}
+use Rattle.traprun_cli.specs.declared.error.TraprunError.{TraprunError}
+use Rattle.traprun_cli.specs.declared.error.TraprunError.TheVariants.{Whole, TooManyPages, AtPage, Ends, Extra}
 use Rattle.traprun_cli.specs.Images.{HasImage, HasImageFault, HasNoImage, page_decoder}
 use Rattle.traprun_cli.specs.Pages.{AreMade, pages_of, run_files, target_at}
 use Rattle.traprun_cli.specs.RunVerdicts.{RunVerdict, AllEnd, AllMade, ComesTo, HasPages, IsRunVerdict, SomeRunVerdict}
 use Rattle.traprun_cli.specs.RunVerdicts.RunVerdict.{Stopped, Out}
 use Rattle.traprun_cli.proofs.SomeImageLemmas.{Judged, image_judged}
-use Rattle.refusals.specs.declared.refusal.Refusal.TheVariants.{Usage, Job, NoDetails, Plate, Page, Read, Write, Memory}
+use Rattle.common_errors.specs.declared.common.CommonError.TheVariants.{Usage, Job, NoDetails, Plate, Page, Read, Write, Memory}
 use Rattle.page_files.specs.Verdicts.{Verdict, IsFile, IsVerdict, Targets}
 use Rattle.page_files.specs.Verdicts.Verdict.{Refused, Out as PageOut}
 use Rattle.page_files.proofs.SomeLemmas.{some_verdict}
 
 -- A job of many pages is counted or refused, and never for lack of memory.
-no_memory_refusal : (end : Option JobFault) (more : Option StatementSpan) → or_else (option_map Fault end) (excess more) ≡ Some OutOfMemory → ⊥
-no_memory_refusal (Some fault) more is = let e : Some (Fault fault) ≡ Some OutOfMemory = is in absurd cc
-no_memory_refusal None (Some p) is = let e : Some (HasTooMany p.at) ≡ Some OutOfMemory = is in absurd cc
-no_memory_refusal None None is = let e : None ≡ Some OutOfMemory = is in absurd cc
+no_memory_error : (end : Option JobFault) (more : Option StatementSpan) → or_else (option_map Fault end) (excess more) ≡ Some OutOfMemory → ⊥
+no_memory_error (Some fault) more is = let e : Some (Fault fault) ≡ Some OutOfMemory = is in absurd cc
+no_memory_error None (Some p) is = let e : Some (HasTooMany p.at) ≡ Some OutOfMemory = is in absurd cc
+no_memory_error None None is = let e : None ≡ Some OutOfMemory = is in absurd cc
 
-no_memory_unless : (refusal : Option RunRefusal) (spans : List StatementSpan) → (refusal ≡ Some OutOfMemory → ⊥) → run_unless refusal spans ≡ Err OutOfMemory → ⊥
-no_memory_unless None spans other is = let e : ◌≡◌ {A = Result (List StatementSpan) RunRefusal} (Ok spans) (Err OutOfMemory) = is in absurd cc
-no_memory_unless (Some refusal) spans other is =
-    let e : ◌≡◌ {A = Result (List StatementSpan) RunRefusal} (Err refusal) (Err OutOfMemory) = is in
-    let same : refusal ≡ OutOfMemory = cc in
-    other (ap (λ (r : RunRefusal). Some r) same)
+no_memory_unless : (common_error : Option RunError) (spans : List StatementSpan) → (common_error ≡ Some OutOfMemory → ⊥) → run_unless common_error spans ≡ Err OutOfMemory → ⊥
+no_memory_unless None spans other is = let e : ◌≡◌ {A = Result (List StatementSpan) RunError} (Ok spans) (Err OutOfMemory) = is in absurd cc
+no_memory_unless (Some common_error) spans other is =
+    let e : ◌≡◌ {A = Result (List StatementSpan) RunError} (Err common_error) (Err OutOfMemory) = is in
+    let same : common_error ≡ OutOfMemory = cc in
+    other (ap (λ (r : RunError). Some r) same)
 
 no_memory_from : (len : ℕ) (objects : Result (List Object) JobFault) → run_from len objects ≡ Err OutOfMemory → ⊥
-no_memory_from len (Err fault) is = let e : ◌≡◌ {A = Result (List StatementSpan) RunRefusal} (Err (Fault fault)) (Err OutOfMemory) = is in absurd cc
-no_memory_from len (Ok objects) is = no_memory_unless _ _ (no_memory_refusal _ _) is
+no_memory_from len (Err fault) is = let e : ◌≡◌ {A = Result (List StatementSpan) RunError} (Err (Fault fault)) (Err OutOfMemory) = is in absurd cc
+no_memory_from len (Ok objects) is = no_memory_unless _ _ (no_memory_error _ _) is
 
 no_memory_run : (bytes : List ℕ) → run_of bytes ≡ Err OutOfMemory → ⊥
 unfolding run_of
 no_memory_run bytes is = no_memory_from (length bytes) (objects_in bytes) is
 
-no_memory_count : (run : Result (List StatementSpan) RunRefusal) → (run ≡ Err OutOfMemory → ⊥) → count_from run ≡ Err OutOfMemory → ⊥
-no_memory_count (Ok spans) other is = let e : ◌≡◌ {A = Result ℕ RunRefusal} (Ok _) (Err OutOfMemory) = is in absurd cc
-no_memory_count (Err refusal) other is =
-    let e : ◌≡◌ {A = Result ℕ RunRefusal} (Err refusal) (Err OutOfMemory) = is in
-    let same : refusal ≡ OutOfMemory = cc in
-    other (ap (λ (r : RunRefusal). Err r) same)
+no_memory_count : (run : Result (List StatementSpan) RunError) → (run ≡ Err OutOfMemory → ⊥) → count_from run ≡ Err OutOfMemory → ⊥
+no_memory_count (Ok spans) other is = let e : ◌≡◌ {A = Result ℕ RunError} (Ok _) (Err OutOfMemory) = is in absurd cc
+no_memory_count (Err common_error) other is =
+    let e : ◌≡◌ {A = Result ℕ RunError} (Err common_error) (Err OutOfMemory) = is in
+    let same : common_error ≡ OutOfMemory = cc in
+    other (ap (λ (r : RunError). Err r) same)
 
-no_memory_if : (long : Bool) (fault : JobFault) (counted : Result ℕ RunRefusal) → (counted ≡ Err OutOfMemory → ⊥) → cond long (Err (Fault fault)) counted ≡ Err OutOfMemory → ⊥
-no_memory_if true fault counted other is = let e : ◌≡◌ {A = Result ℕ RunRefusal} (Err (Fault fault)) (Err OutOfMemory) = is in absurd cc
+no_memory_if : (long : Bool) (fault : JobFault) (counted : Result ℕ RunError) → (counted ≡ Err OutOfMemory → ⊥) → cond long (Err (Fault fault)) counted ≡ Err OutOfMemory → ⊥
+no_memory_if true fault counted other is = let e : ◌≡◌ {A = Result ℕ RunError} (Err (Fault fault)) (Err OutOfMemory) = is in absurd cc
 no_memory_if false fault counted other is = other is
 
 never_memory : (bytes : List ℕ) → pages_of bytes ≡ Err OutOfMemory → ⊥
@@ -77,7 +77,7 @@ module _ (files : List ℕ → Option (List ℕ)) (source : Sources) (target : T
   -- Page k is made, or the run stops there.
   data PageEnd (k : ℕ) : Type 0 where
     made : (page : PageParts) → Makes (page_decoder k) files source (Ok page) → PageEnd k
-    stops : (stop : TraprunError) → (ComesTo files source k → IsRunVerdict files source target (Stopped stop)) → PageEnd k
+    stops : (error : TraprunError) → (ComesTo files source k → IsRunVerdict files source target (Stopped error)) → PageEnd k
 
   are_read : (k n : ℕ) (plates : List PlateRead) → AreRead (with_ends k) files source.inputs n plates → AreRead (page_decoder k) files source.inputs n plates
   are_read k n plates read = record { all = read.all; each = read.each }
@@ -113,7 +113,7 @@ module _ (files : List ℕ → Option (List ℕ)) (source : Sources) (target : T
 
   next_page : (count n : ℕ) → HasPages files source count → n < count → (pages : List PageParts) → length pages ≡ n → AreMade files source pages → PageEnd n → Came (suc n)
   next_page count n has within pages number before (made page is) = inl (page ∷ pages, ap suc number, (before, subst (λ (k : ℕ). Makes (page_decoder k) files source (Ok page)) (sym number) is))
-  next_page count n has within pages number before (stops stop is) = inr (Stopped stop, is (record { count = count; has = has; within = within; pages = pages; number = number; made = before }))
+  next_page count n has within pages number before (stops error is) = inr (Stopped error, is (record { count = count; has = has; within = within; pages = pages; number = number; made = before }))
 
   pages_to : (count : ℕ) → HasPages files source count → (n : ℕ) → n ≤ count → Came n
   pages_to count has zero within = inl ([], refl, tt)
@@ -157,7 +157,7 @@ module _ (files : List ℕ → Option (List ℕ)) (source : Sources) (target : T
     | inl so ↦ all_looked (record { pages = so.0; has = subst (HasPages files source) (sym so.1) has; made = so.2 })
   ]
 
-  by_pages : (said : Result ℕ RunRefusal) → pages_of job_there.0 ≡ said → Stands
+  by_pages : (said : Result ℕ RunError) → pages_of job_there.0 ≡ said → Stands
   by_pages (Ok count) is = with_pages count (job_there.0, job_there.1, is)
   by_pages (Err (Fault fault)) is = (Stopped (Whole (Job fault)), (job_there.0, job_there.1, is))
   by_pages (Err (HasTooMany at)) is = (Stopped (TooManyPages at), (job_there.0, job_there.1, is))

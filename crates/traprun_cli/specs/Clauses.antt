@@ -2,29 +2,29 @@
 -- after the call.
 use Rattle.std.specs.Prelude.{◌≡◌, ◌≢◌, ◌⊎◌, ℕ, suc, ◌<◌, ◌≤◌, IsTrue, IsFalse, List, ◌∷◌, length}
 use Rattle.std.specs.Prelude.{All, Option, Some, None}
-use Rattle.outside.specs.Causes.{Rose, Asks, AsksPrefix}
+use Rattle.outside.specs.ErrorCases.{Rose, Asks, AsksPrefix}
 use Rattle.outside.specs.Tray.{TrayState}
 use Rattle.outside.specs.Rack.{RackState, KeepsRack}
 use Rattle.page_files.specs.Inputs.{name_at}
 use Rattle.page_model.specs.declared.parts.PageParts.{PageParts}
 use Rattle.page_model.specs.Conditions.{IsPage}
-use Rattle.traprun_cli.specs.Endings.{BreaksRun, StopsAfter, StopKeepsCount, stop_reads}
+use Rattle.traprun_cli.specs.Endings.{BreaksRun, StopsAfter, ErrorKeepsCount, error_reads}
 use Rattle.traprun_cli.specs.Text.{usage_line}
 use Rattle.traprun_cli.specs.InHand.{InHand}
 use Rattle.traprun_cli.specs.Words.{RunWords, order_of, sources_of, targets_of}
 use Rattle.page_files.specs.Files.{Written, put_all}
 use Rattle.page_files.specs.Writing.{Breaks, FinishesAll, WritesAll}
-use Rattle.traprun_cli.specs.declared.stop.TraprunError.{TraprunError}
-use Rattle.traprun_cli.specs.declared.stop.TraprunError.TheVariants.{AtPage}
+use Rattle.traprun_cli.specs.declared.error.TraprunError.{TraprunError}
+use Rattle.traprun_cli.specs.declared.error.TraprunError.TheVariants.{AtPage}
 use Rattle.traprun_cli.specs.Pages.{AreMade, run_files, run_names, run_reads, target_at}
 use Rattle.traprun_cli.specs.RunVerdicts.{RunVerdict, AllEnd, HasPages, IsRunVerdict, Stopped}
 use Rattle.traprun_cli.specs.RunVerdicts.{Out, status_of_verdict}
-use Rattle.traprun_cli.specs.Stops.{line_of_stop, status_of_stop}
-use Rattle.refusals.specs.declared.refusal.Refusal.TheVariants.{Memory, Write}
-use Rattle.refusals.specs.Refusals.{line_of}
-use Rattle.refusals.specs.Statuses.{done, usage, job_refused, page_refused, not_read}
-use Rattle.refusals.specs.Statuses.{not_written, out_of_memory}
-use Rattle.refusals.specs.Telling.{TellsText, TellsAfterFault}
+use Rattle.traprun_cli.specs.Errors.{line_of_error, status_of_error}
+use Rattle.common_errors.specs.declared.common.CommonError.TheVariants.{Memory, Write}
+use Rattle.common_errors.specs.CommonErrors.{line_of}
+use Rattle.common_errors.specs.Statuses.{done, usage, job_refused, page_refused, not_read}
+use Rattle.common_errors.specs.Statuses.{not_written, out_of_memory}
+use Rattle.common_errors.specs.Telling.{TellsText, TellsAfterFault}
 use Rattle.page_files.specs.Verdicts.{IsFile, outcome}
 
 -- The words mean this run.
@@ -59,7 +59,7 @@ pub record EveryPage (order : RunWords) (tray tray' : TrayState) (rack rack' : R
   pub ended : IsTrue tray.tells →
       AllEnd tray.file (sources_of order) (length pages) (length (sources_of order).inputs)
   pub begun : Asks tray.asked tray'.asked (run_reads (sources_of order) (suc (length pages)))
-  pub silent : IsTrue rack.tells → rack'.told ≡ rack.told
+  pub silent : IsTrue rack.tells → rack'.reported ≡ rack.reported
 
 -- Status 0 comes only where neither count rose. All pages of the job are then whole, so that the
 -- verdict is their files.
@@ -88,15 +88,15 @@ pub record Usage (words : List (List ℕ)) (tray tray' : TrayState) (rack rack' 
 -- before it, which are whole; the names that were handed to `begin`, none after that of the file
 -- that is refused, and to `create`; and that no fault of the tray was passed over.
 pub record RefusesPages (order : RunWords) (tray tray' : TrayState) (rack rack' : RackState)
-    (status : ℕ) (stop : TraprunError) (pages : List PageParts) : Type 0 where
-  pub status_is : status ≡ status_of_stop stop
+    (status : ℕ) (error : TraprunError) (pages : List PageParts) : Type 0 where
+  pub status_is : status ≡ status_of_error error
   pub verdict : IsTrue tray.tells →
-      IsRunVerdict tray.file (sources_of order) (targets_of order) (Stopped stop)
+      IsRunVerdict tray.file (sources_of order) (targets_of order) (Stopped error)
   pub whole : Whole order tray tray' rack rack' pages
-  pub place : StopsAfter (sources_of order) tray (length pages) stop
-  pub begun : Asks tray.asked tray'.asked (stop_reads (sources_of order) (length pages) stop)
-  pub count : StopKeepsCount tray tray' stop
-  pub line : TellsText (line_of_stop stop) rack rack'
+  pub place : StopsAfter (sources_of order) tray (length pages) error
+  pub begun : Asks tray.asked tray'.asked (error_reads (sources_of order) (length pages) error)
+  pub count : ErrorKeepsCount tray tray' error
+  pub line : TellsText (line_of_error error) rack rack'
 
 -- Status 3 and 4 come only where the verdict is a stop of that status; and where it is one, and
 -- neither count rose, its status comes, or 7.
@@ -104,30 +104,30 @@ pub record RefusedInput (words : List (List ℕ)) (tray tray' : TrayState) (rack
     (status : ℕ) : Type 0 where
   pub only : (order : RunWords) → Mean words order →
       (status ≡ job_refused) ⊎ (status ≡ page_refused) →
-      (stop : TraprunError) × (pages : List PageParts) ×
-      RefusesPages order tray tray' rack rack' status stop pages
-  pub always : (order : RunWords) (stop : TraprunError) → Mean words order → IsTrue tray.tells →
-      IsRunVerdict tray.file (sources_of order) (targets_of order) (Stopped stop) →
+      (error : TraprunError) × (pages : List PageParts) ×
+      RefusesPages order tray tray' rack rack' status error pages
+  pub always : (order : RunWords) (error : TraprunError) → Mean words order → IsTrue tray.tells →
+      IsRunVerdict tray.file (sources_of order) (targets_of order) (Stopped error) →
       ¬ Rose tray.faults tray'.faults → ¬ Rose rack.faults rack'.faults →
-      (status ≡ status_of_stop stop) ⊎ (status ≡ out_of_memory)
+      (status ≡ status_of_error error) ⊎ (status ≡ out_of_memory)
 
 -- What comes where a read fails: the pages before are whole, what was read of this one has no
 -- fault, and the line names the file that was handed to `begin` last.
 pub record FailsToRead (order : RunWords) (tray tray' : TrayState) (rack rack' : RackState)
     (status : ℕ) : Type 0 where
-  pub stop : TraprunError
+  pub error : TraprunError
   pub pages : List PageParts
-  pub status_is : status ≡ status_of_stop stop
+  pub status_is : status ≡ status_of_error error
   pub whole : Whole order tray tray' rack rack' pages
-  pub begun : Asks tray.asked tray'.asked (stop_reads (sources_of order) (length pages) stop)
-  pub breaks : BreaksRun (sources_of order) (length pages) tray tray' stop
-  pub line : TellsText (line_of_stop stop) rack rack'
+  pub begun : Asks tray.asked tray'.asked (error_reads (sources_of order) (length pages) error)
+  pub breaks : BreaksRun (sources_of order) (length pages) tray tray' error
+  pub line : TellsText (line_of_error error) rack rack'
 
 -- Status 5 comes only where the tray's count rose. Neither a failed write nor out of memory passes
 -- a fault of the tray over.
 pub record ReadFault (words : List (List ℕ)) (tray tray' : TrayState) (rack rack' : RackState)
     (status : ℕ) : Type 0 where
-  pub cause : status ≡ not_read → Rose tray.faults tray'.faults
+  pub reason : status ≡ not_read → Rose tray.faults tray'.faults
   pub breaks : (order : RunWords) → Mean words order → status ≡ not_read →
       FailsToRead order tray tray' rack rack' status
   pub calm : (status ≡ not_written) ⊎ (status ≡ out_of_memory) → tray'.faults ≡ tray.faults
@@ -153,12 +153,12 @@ pub record FailsToWrite (order : RunWords) (tray tray' : TrayState) (rack rack' 
   pub made : IsTrue tray.tells → AreMade tray.file (sources_of order) (page ∷ pages)
   pub breaks : Breaks (length (targets_of order).outputs)
       (outcome (target_at (targets_of order) (length pages)) page) file between rack'
-  pub line : TellsAfterFault (line_of_stop (AtPage (length pages) (Write file))) rack rack'
+  pub line : TellsAfterFault (line_of_error (AtPage (length pages) (Write file))) rack rack'
 
 -- Status 6 comes only where the rack's count rose.
 pub record WriteFault (words : List (List ℕ)) (tray tray' : TrayState) (rack rack' : RackState)
     (status : ℕ) : Type 0 where
-  pub cause : status ≡ not_written → Rose rack.faults rack'.faults
+  pub reason : status ≡ not_written → Rose rack.faults rack'.faults
   pub breaks : (order : RunWords) → Mean words order → status ≡ not_written →
       FailsToWrite order tray tray' rack rack'
 
@@ -183,13 +183,13 @@ LeavesPages words tray tray' rack rack' status =
 -- whichever place it comes.
 pub record FaultLine (rack rack' : RackState) (status : ℕ) : Type 0 where
   pub stopped : status ≢ done → status ≢ usage → status ≢ not_written →
-      (stop : TraprunError) × (status ≡ status_of_stop stop)
-      × TellsText (line_of_stop stop) rack rack'
+      (error : TraprunError) × (status ≡ status_of_error error)
+      × TellsText (line_of_error error) rack rack'
   pub memory : status ≡ out_of_memory → TellsText (line_of Memory) rack rack'
 
 -- Where the verdict is a list of files and no count rose, the status is 0 or 7. Where the job and
 -- all plates are among the tray's files there is a verdict, and where no count rose the status is
--- the one that it asks for, or 7: valid input comes to 0 or 7, and any other to its first refusal.
+-- the one that it asks for, or 7: valid input comes to 0 or 7, and any other to its first error.
 -- Every status is 0 or one of 2 to 7.
 pub record Completeness (words : List (List ℕ)) (tray tray' : TrayState) (rack rack' : RackState)
     (status : ℕ) : Type 0 where

@@ -1,7 +1,7 @@
 -- How a run ends.
 use Rattle.std.specs.Prelude.{◌≡◌, ◌⊎◌, ℕ, ◌+◌, suc, IsTrue, List, ◌∷◌, ◌++◌, length, take, All}
 use Rattle.std.specs.Prelude.{Option, Some, None, Result, Ok, Err}
-use Rattle.outside.specs.Causes.{Rose, RoseOnce, Asks, AsksPrefix}
+use Rattle.outside.specs.ErrorCases.{Rose, RoseOnce, Asks, AsksPrefix}
 use Rattle.outside.specs.Tray.{TrayState, KeepsTray}
 use Rattle.outside.specs.Rack.{RackState, KeepsRack}
 use Rattle.page_files.specs.Inputs.{Sources, name_at}
@@ -14,15 +14,15 @@ use Rattle.traprun_cli.specs.InHand.{InHand}
 use Rattle.traprun_cli.specs.Reading.{IsUnbroken}
 use Rattle.traprun_cli.specs.Text.{usage_line}
 use Rattle.traprun_cli.specs.Words.{RunWords, order_of, sources_of, targets_of}
-use Rattle.traprun_cli.specs.declared.stop.TraprunError.{TraprunError}
-use Rattle.traprun_cli.specs.declared.stop.TraprunError.TheVariants.{Whole, AtPage, Ends}
-use Rattle.traprun_cli.specs.declared.stop.TraprunError.TheVariants.{Extra}
+use Rattle.traprun_cli.specs.declared.error.TraprunError.{TraprunError}
+use Rattle.traprun_cli.specs.declared.error.TraprunError.TheVariants.{Whole, AtPage, Ends}
+use Rattle.traprun_cli.specs.declared.error.TraprunError.TheVariants.{Extra}
 use Rattle.traprun_cli.specs.Pages.{AreMade, run_files, run_names, run_reads, target_at}
 use Rattle.traprun_cli.specs.RunVerdicts.{AllEnd, HasPages, IsRunVerdict, Stopped}
-use Rattle.traprun_cli.specs.Stops.{RefusesRun, status_of_stop}
-use Rattle.refusals.specs.declared.refusal.Refusal.TheVariants.{Plate, Read, Write, Memory}
-use Rattle.refusals.specs.Statuses.{done as is_done, usage, job_refused, page_refused}
-use Rattle.refusals.specs.Telling.{KeepsFiles, TellsText}
+use Rattle.traprun_cli.specs.Errors.{RefusesRun, status_of_error}
+use Rattle.common_errors.specs.declared.common.CommonError.TheVariants.{Plate, Read, Write, Memory}
+use Rattle.common_errors.specs.Statuses.{done as is_done, usage, job_refused, page_refused}
+use Rattle.common_errors.specs.Telling.{KeepsFiles, TellsText}
 use Rattle.page_files.specs.Verdicts.{Targets, outcome, written_names}
 
 -- These pages were read and written whole, one after another; the last of them stands first.
@@ -37,24 +37,24 @@ pub record Written (source : Sources) (target : Targets) (tray tray' : TrayState
   pub wrote : WritesAll (run_files target pages) rack rack'
 
 -- the files that are begun where a run stops so after k pages: none after the one that is refused
-abbrev pub stop_reads : Sources → ℕ → TraprunError → List (List ℕ)
-stop_reads source k (AtPage page refusal) = run_reads source k ++ page_reads source refusal
-stop_reads source k (Ends page plate) = run_reads source k ++ take (plate + 1) source.inputs
-stop_reads source k (Extra plate) = run_reads source k ++ take (plate + 1) source.inputs
-stop_reads source k (Whole (Plate plate fault)) =
+abbrev pub error_reads : Sources → ℕ → TraprunError → List (List ℕ)
+error_reads source k (AtPage page common_error) = run_reads source k ++ page_reads source common_error
+error_reads source k (Ends page plate) = run_reads source k ++ take (plate + 1) source.inputs
+error_reads source k (Extra plate) = run_reads source k ++ take (plate + 1) source.inputs
+error_reads source k (Whole (Plate plate fault)) =
     run_reads source k ++ take (plate + 1) source.inputs
-stop_reads source k (Whole (Read (Some plate))) =
+error_reads source k (Whole (Read (Some plate))) =
     run_reads source k ++ take (plate + 1) source.inputs
-stop_reads source k other = run_reads source k
+error_reads source k other = run_reads source k
 
 -- No fault of the tray is passed over: the count stays, but where a sample above the maxval is
 -- refused, which may be among the bytes that came before a failed read.
-abbrev pub StopKeepsCount : TrayState → TrayState → TraprunError → Type 0
-StopKeepsCount before after (AtPage page refusal) =
-    PassesNoFault {T = Unit {0}} before after (Err refusal)
-StopKeepsCount before after (Whole refusal) =
-    PassesNoFault {T = Unit {0}} before after (Err refusal)
-StopKeepsCount before after other = after.faults ≡ before.faults
+abbrev pub ErrorKeepsCount : TrayState → TrayState → TraprunError → Type 0
+ErrorKeepsCount before after (AtPage page common_error) =
+    PassesNoFault {T = Unit {0}} before after (Err common_error)
+ErrorKeepsCount before after (Whole common_error) =
+    PassesNoFault {T = Unit {0}} before after (Err common_error)
+ErrorKeepsCount before after other = after.faults ≡ before.faults
 
 -- The read of the file that a stop names failed. What was read before it is without fault: the job;
 -- of a page its job and the plates before; after the last page the plates before, whose files end
@@ -72,7 +72,7 @@ BreaksRun source k before after other = ⊥
 -- A stop stands after k pages: that of a page has the page's number, one of the whole job comes
 -- before the first page, and one of a plate's last look after all pages of the job.
 abbrev pub StopsAfter : Sources → TrayState → ℕ → TraprunError → Type 0
-StopsAfter source before k (AtPage page refusal) = page ≡ k
+StopsAfter source before k (AtPage page common_error) = page ≡ k
 StopsAfter source before k (Ends page plate) = page ≡ k
 StopsAfter source before k (Extra plate) = IsTrue before.tells → HasPages before.file source k
 StopsAfter source before k (Whole (Plate plate fault)) = IsTrue before.tells
@@ -98,19 +98,19 @@ pub data AnswersRun (source : Sources) (target : Targets) (tray tray' : TrayStat
       × AllEnd tray.file source (length pages) (length source.inputs))
       → InHand source (length pages) tray tray'
       → AnswersRun source target tray tray' rack rack' result
-  refused : (pages : List PageParts) (between : TrayState) (stop : TraprunError) → result ≡ Err stop
-      → (status_of_stop stop ≡ job_refused) ⊎ (status_of_stop stop ≡ page_refused)
+  refused : (pages : List PageParts) (between : TrayState) (error : TraprunError) → result ≡ Err error
+      → (status_of_error error ≡ job_refused) ⊎ (status_of_error error ≡ page_refused)
       → Written source target tray between rack rack' pages
-      → StopsAfter source tray (length pages) stop → StopKeepsCount tray tray' stop
-      → Asks tray.asked tray'.asked (stop_reads source (length pages) stop)
-      → (IsTrue tray.tells → IsRunVerdict tray.file source target (Stopped stop))
+      → StopsAfter source tray (length pages) error → ErrorKeepsCount tray tray' error
+      → Asks tray.asked tray'.asked (error_reads source (length pages) error)
+      → (IsTrue tray.tells → IsRunVerdict tray.file source target (Stopped error))
       → InHand source (length pages) tray tray'
       → AnswersRun source target tray tray' rack rack' result
-  unread : (pages : List PageParts) (between : TrayState) (stop : TraprunError) → result ≡ Err stop
-      → status_of_stop stop ≡ 5 → Written source target tray between rack rack' pages
+  unread : (pages : List PageParts) (between : TrayState) (error : TraprunError) → result ≡ Err error
+      → status_of_error error ≡ 5 → Written source target tray between rack rack' pages
       → Rose tray.faults tray'.faults
-      → Asks tray.asked tray'.asked (stop_reads source (length pages) stop)
-      → BreaksRun source (length pages) tray tray' stop → InHand source (length pages) tray tray'
+      → Asks tray.asked tray'.asked (error_reads source (length pages) error)
+      → BreaksRun source (length pages) tray tray' error → InHand source (length pages) tray tray'
       → AnswersRun source target tray tray' rack rack' result
   unwritten : (pages : List PageParts) (between : TrayState) (mid : RackState) (page : PageParts)
       (file : Option ℕ) → result ≡ Err (AtPage (length pages) (Write file))
@@ -134,7 +134,7 @@ pub record Runs (source : Sources) (target : Targets) (tray tray' : TrayState)
     (rack rack' : RackState) (result : Result (Unit {0}) TraprunError) : Type 0 where
   pub tray_keeps : KeepsTray tray tray'
   pub rack_keeps : KeepsRack rack rack'
-  pub told : IsTrue rack.tells → rack'.told ≡ rack.told
+  pub reported : IsTrue rack.tells → rack'.reported ≡ rack.reported
   pub answer : AnswersRun source target tray tray' rack rack' result
 
 -- After a job that was read and has pages, the run is carried out: seen from the tray as it was
@@ -149,7 +149,7 @@ pub record PagesDone (source : Sources) (target : Targets) (tray tray' : TraySta
     (rack rack' : RackState) (pages : List PageParts) : Type 0 where
   pub tray_keeps : KeepsTray tray tray'
   pub rack_keeps : KeepsRack rack rack'
-  pub told : IsTrue rack.tells → rack'.told ≡ rack.told
+  pub reported : IsTrue rack.tells → rack'.reported ≡ rack.reported
   pub in_hand : InHand source (length pages) tray tray'
   pub written : Written source target tray tray' rack rack' pages
 
@@ -158,8 +158,8 @@ abbrev pub AnswersPages : Sources → Targets → ℕ → TrayState → TrayStat
     → Result (Unit {0}) TraprunError → Type 0
 AnswersPages source target count tray tray' rack rack' (Ok x) = (pages : List PageParts)
     × (length pages ≡ count) × PagesDone source target tray tray' rack rack' pages
-AnswersPages source target count tray tray' rack rack' (Err stop) =
-    Runs source target tray tray' rack rack' (Err stop)
+AnswersPages source target count tray tray' rack rack' (Err error) =
+    Runs source target tray tray' rack rack' (Err error)
 
 abbrev pub TrapsPages : Sources → Targets → List ℕ → TrayState → TrayState → RackState → RackState
     → Result (Unit {0}) TraprunError → Type 0
@@ -170,7 +170,7 @@ TrapsPages source target bytes between tray' rack rack' result = (tray : TraySta
 -- the status, or the line of the stop
 abbrev pub Closes : Result (Unit {0}) TraprunError → RackState → RackState → ℕ → Type 0
 Closes (Ok x) before after status = (after ≡ before) × (status ≡ is_done)
-Closes (Err stop) before after status = RefusesRun stop before after status
+Closes (Err error) before after status = RefusesRun error before after status
 
 -- A run is carried out, and its stop is printed.
 pub record EndsRun (order : RunWords) (tray tray' : TrayState) (rack rack' : RackState)

@@ -1,7 +1,7 @@
 -- What it means to read the job of a run, and one page of it.
 use Rattle.std.specs.Prelude.{◌≡◌, ◌⊎◌, ℕ, ◌+◌, IsTrue, List, [], length, take, Some, Result}
 use Rattle.std.specs.Prelude.{Ok, Err, IfOk}
-use Rattle.outside.specs.Causes.{Rose, Asks, AsksPrefix}
+use Rattle.outside.specs.ErrorCases.{Rose, Asks, AsksPrefix}
 use Rattle.outside.specs.Tray.{TrayState, KeepsTray}
 use Rattle.page_files.specs.Inputs.{Sources, Holds, AreRead, Makes, name_at}
 use Rattle.page_files.specs.Steps.{PassesNoFault, TakesJob}
@@ -9,37 +9,37 @@ use Rattle.job_reader.specs.declared.job.Job.{Job as JobRead}
 use Rattle.page_model.specs.declared.parts.PageParts.{PageParts}
 use Rattle.page_model.specs.Page.{plates}
 use Rattle.pgm_plates.specs.declared.plate.Plate.{Plate as PlateRead}
-use Rattle.ps_tokens.specs.declared.faults.JobRefusal.{JobRefusal as JobRefusals}
-use Rattle.ps_tokens.specs.declared.faults.JobRefusal.TheVariants.{Fault, OutOfMemory}
+use Rattle.ps_tokens.specs.declared.faults.JobError.{JobError as JobErrors}
+use Rattle.ps_tokens.specs.declared.faults.JobError.TheVariants.{Fault, OutOfMemory}
 use Rattle.traprun_cli.specs.Opened.{IsOpenJob, order_in}
 use Rattle.traprun_cli.specs.InHand.{MayHold}
 use Rattle.traprun_cli.specs.Reading.{IsUnbroken, ReadsRunJob}
 use Rattle.traprun_cli.specs.Words.{sources_of}
 use Rattle.traprun_cli.specs.declared.gather.OpenJob.{OpenJob}
 use Rattle.traprun_cli.specs.declared.words.TraprunArgs.{TraprunArgs}
-use Rattle.traprun_cli.specs.declared.stop.TraprunError.{TraprunError}
-use Rattle.traprun_cli.specs.declared.stop.TraprunError.TheVariants.{Whole, AtPage, Ends}
+use Rattle.traprun_cli.specs.declared.error.TraprunError.{TraprunError}
+use Rattle.traprun_cli.specs.declared.error.TraprunError.TheVariants.{Whole, AtPage, Ends}
 use Rattle.traprun_cli.specs.Images.{page_decoder}
 use Rattle.traprun_cli.specs.Pages.{pages_of, run_reads}
 use Rattle.traprun_cli.specs.RunVerdicts.{PlateEnds}
-use Rattle.refusals.specs.declared.refusal.Refusal.{Refusal}
-use Rattle.refusals.specs.declared.refusal.Refusal.TheVariants.{Job, Plate, Read, Memory}
-use Rattle.refusals.specs.Refusals.{status_of}
-use Rattle.refusals.specs.Statuses.{job_refused, page_refused}
+use Rattle.common_errors.specs.declared.common.CommonError.{CommonError}
+use Rattle.common_errors.specs.declared.common.CommonError.TheVariants.{Job, Plate, Read, Memory}
+use Rattle.common_errors.specs.CommonErrors.{status_of}
+use Rattle.common_errors.specs.Statuses.{job_refused, page_refused}
 use Rattle.page_files.specs.Verdicts.{Targets, IsVerdict, Refused}
 
 -- The job's file has these bytes, where the tray tells them.
 abbrev pub IsJobOf : Sources → List ℕ → TrayState → Type 0
 IsJobOf source bytes tray = IsTrue tray.tells → tray.file source.job ≡ Some bytes
 
--- the stop that the refusal of a page's job is; out of memory belongs to no page
-abbrev pub job_stop : ℕ → JobRefusals → TraprunError
-job_stop page (Fault fault) = AtPage page (Job fault)
-job_stop page OutOfMemory = Whole Memory
+-- the stop that the error of a page's job is; out of memory belongs to no page
+abbrev pub job_error : ℕ → JobErrors → TraprunError
+job_error page (Fault fault) = AtPage page (Job fault)
+job_error page OutOfMemory = Whole Memory
 
--- the files that are begun at a page where that refusal comes: none stands after the one that is
+-- the files that are begun at a page where that error comes: none stands after the one that is
 -- refused
-abbrev pub page_reads : Sources → Refusal → List (List ℕ)
+abbrev pub page_reads : Sources → CommonError → List (List ℕ)
 page_reads source (Job fault) = []
 page_reads source (Plate plate fault) = take (plate + 1) source.inputs
 page_reads source (Read (Some plate)) = take (plate + 1) source.inputs
@@ -58,22 +58,22 @@ pub record PageBreaks (source : Sources) (k plate : ℕ) (before after : TraySta
 
 -- Page k stops the run before a file of it is created.
 pub data StopsPage (source : Sources) (k : ℕ) (before after : TrayState)
-    (stop : TraprunError) : Type 0 where
-  refused : (refusal : Refusal) → stop ≡ AtPage k refusal → (status_of refusal ≡ job_refused)
-      ⊎ (status_of refusal ≡ page_refused) → PassesNoFault {T = Unit {0}} before after (Err refusal)
-      → Asks before.asked after.asked (page_reads source refusal)
+    (error : TraprunError) : Type 0 where
+  refused : (common_error : CommonError) → error ≡ AtPage k common_error → (status_of common_error ≡ job_refused)
+      ⊎ (status_of common_error ≡ page_refused) → PassesNoFault {T = Unit {0}} before after (Err common_error)
+      → Asks before.asked after.asked (page_reads source common_error)
       → (IsTrue before.tells → (target : Targets)
-      → IsVerdict (page_decoder k) before.file source target (Refused refusal))
-      → StopsPage source k before after stop
-  ends : (plate : ℕ) → stop ≡ Ends k plate → after.faults ≡ before.faults
+      → IsVerdict (page_decoder k) before.file source target (Refused common_error))
+      → StopsPage source k before after error
+  ends : (plate : ℕ) → error ≡ Ends k plate → after.faults ≡ before.faults
       → Asks before.asked after.asked (take (plate + 1) source.inputs)
       → (IsTrue before.tells → PlateEnds before.file source k plate)
-      → StopsPage source k before after stop
-  unread : (plate : ℕ) → stop ≡ AtPage k (Read (Some plate)) → Rose before.faults after.faults
+      → StopsPage source k before after error
+  unread : (plate : ℕ) → error ≡ AtPage k (Read (Some plate)) → Rose before.faults after.faults
       → Asks before.asked after.asked (take (plate + 1) source.inputs)
-      → PageBreaks source k plate before after → StopsPage source k before after stop
-  no_memory : stop ≡ Whole Memory → after.faults ≡ before.faults
-      → AsksPrefix before.asked after.asked source.inputs → StopsPage source k before after stop
+      → PageBreaks source k plate before after → StopsPage source k before after error
+  no_memory : error ≡ Whole Memory → after.faults ≡ before.faults
+      → AsksPrefix before.asked after.asked source.inputs → StopsPage source k before after error
 
 -- Page k is made of the job and of the k-th images.
 pub record IsPageMade (source : Sources) (k : ℕ) (before after : TrayState)
@@ -86,7 +86,7 @@ pub record IsPageMade (source : Sources) (k : ℕ) (before after : TrayState)
 abbrev pub AnswersGather : Sources → ℕ → TrayState → TrayState → Result PageParts TraprunError
     → Type 0
 AnswersGather source k before after (Ok page) = IsPageMade source k before after page
-AnswersGather source k before after (Err stop) = StopsPage source k before after stop
+AnswersGather source k before after (Err error) = StopsPage source k before after error
 
 -- Page k is read, with a plane for each plate; where the job's file has these bytes, it is the page
 -- that they and the plates' files make.
@@ -115,6 +115,6 @@ pub data OpensJob (order : TraprunArgs) (before after : TrayState)
   opened : (run : OpenJob) → result ≡ Ok run → IsOpenJob run → run.order.now ≡ order
       → JobOpened (sources_of (order_in order)) run.job before after
       → OpensJob order before after result
-  stopped : (stop : TraprunError) → result ≡ Err stop
-      → ReadsRunJob order.job.now before after (Err stop)
+  stopped : (error : TraprunError) → result ≡ Err error
+      → ReadsRunJob order.job.now before after (Err error)
       → OpensJob order before after result

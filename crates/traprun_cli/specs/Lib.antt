@@ -1,4 +1,4 @@
-pub mod Stops
+pub mod Errors
 pub mod Images
 pub mod Pages
 pub mod RunVerdicts

@@ -28,7 +28,7 @@ pub record IsWithin (order : TraprunArgs) : Type 0 where
   pub few : length order.plates.now ≤ most_plates
 
 -- The lists in hand are those of the words.
-pub record IsOpenJob (held : OpenJob) : Type 0 where
-  pub within : IsWithin held.order.now
-  pub names : held.names ≡ names_of (order_in held.order.now).plates
-  pub inputs : map (λ file. file.now) held.inputs.items ≡ inputs_of (order_in held.order.now).plates
+pub record IsOpenJob (stored : OpenJob) : Type 0 where
+  pub within : IsWithin stored.order.now
+  pub names : stored.names ≡ names_of (order_in stored.order.now).plates
+  pub inputs : map (λ file. file.now) stored.inputs.items ≡ inputs_of (order_in stored.order.now).plates

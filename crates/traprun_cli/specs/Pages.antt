@@ -2,8 +2,8 @@
 use Rattle.std.specs.Prelude.{ℕ, zero, suc, List, [], ◌∷◌, ◌++◌, length, map, nat_lt, if◌then◌else◌}
 use Rattle.std.specs.Prelude.{Option, Result, Ok, Err, codes, decimal}
 use Rattle.page_files.specs.Inputs.{Sources, Makes}
-use Rattle.job_pages.specs.declared.run.RunRefusal.{RunRefusal}
-use Rattle.job_pages.specs.declared.run.RunRefusal.TheVariants.{Fault}
+use Rattle.job_pages.specs.declared.run.RunError.{RunError}
+use Rattle.job_pages.specs.declared.run.RunError.TheVariants.{Fault}
 use Rattle.job_pages.specs.Runs.{count_of}
 use Rattle.page_model.specs.declared.parts.PageParts.{PageParts}
 use Rattle.page_files.specs.Files.{Written}
@@ -23,8 +23,8 @@ target_at target k = record {
   report = numbered k target.report;
 }
 
--- how many pages a job has, or its first refusal; that it is too long comes first
-abbrev pub pages_of : List ℕ → Result ℕ RunRefusal
+-- how many pages a job has, or its first error; that it is too long comes first
+abbrev pub pages_of : List ℕ → Result ℕ RunError
 pages_of bytes =
     if nat_lt longest_job (length bytes) then
     Err (Fault (record { kind = JobTooLong; at = longest_job }))

@@ -1,6 +1,6 @@
 -- What it means to trap one page of a run, and to put it out.
 use Rattle.std.specs.Prelude.{◌≡◌, ℕ, IsTrue, List, length, Option, Result, Ok, Err}
-use Rattle.outside.specs.Causes.{RoseOnce, Asks, AsksPrefix}
+use Rattle.outside.specs.ErrorCases.{RoseOnce, Asks, AsksPrefix}
 use Rattle.outside.specs.Tray.{TrayState, KeepsTray}
 use Rattle.outside.specs.Rack.{RackState, KeepsRack}
 use Rattle.page_files.specs.Inputs.{Sources}
@@ -9,10 +9,10 @@ use Rattle.page_model.specs.Conditions.{IsPage}
 use Rattle.page_files.specs.Writing.{WritesAll, Breaks, FinishesAll}
 use Rattle.traprun_cli.specs.Gathering.{IsJobOf, IsPageMade, StopsPage}
 use Rattle.traprun_cli.specs.InHand.{MayHold}
-use Rattle.traprun_cli.specs.declared.stop.TraprunError.{TraprunError}
-use Rattle.traprun_cli.specs.declared.stop.TraprunError.TheVariants.{Whole, AtPage}
+use Rattle.traprun_cli.specs.declared.error.TraprunError.{TraprunError}
+use Rattle.traprun_cli.specs.declared.error.TraprunError.TheVariants.{Whole, AtPage}
 use Rattle.traprun_cli.specs.Pages.{target_at}
-use Rattle.refusals.specs.declared.refusal.Refusal.TheVariants.{Write, Memory}
+use Rattle.common_errors.specs.declared.common.CommonError.TheVariants.{Write, Memory}
 use Rattle.page_files.specs.Verdicts.{Targets, outcome, written_names}
 
 -- what the answer says where page k is put out
@@ -34,7 +34,7 @@ pub record PutsPage (target : Targets) (k : ℕ) (page : PageParts) (before afte
     (result : Result (Unit {0}) TraprunError) : Type 0 where
   pub valid : IsPage page
   pub keeps : KeepsRack before after
-  pub told : IsTrue before.tells → after.told ≡ before.told
+  pub reported : IsTrue before.tells → after.reported ≡ before.reported
   pub answer : AnswersPutPage target k page before after result
 
 -- what the answer says where page k is read and put out
@@ -45,8 +45,8 @@ pub data AnswersStep (source : Sources) (target : Targets) (k : ℕ) (tray tray'
       → Asks rack.asked rack'.asked (written_names (target_at target k))
       → FinishesAll (written_names (target_at target k)) rack rack'
       → AnswersStep source target k tray tray' rack rack' result
-  stopped : (stop : TraprunError) → result ≡ Err stop → rack' ≡ rack
-      → StopsPage source k tray tray' stop
+  stopped : (error : TraprunError) → result ≡ Err error → rack' ≡ rack
+      → StopsPage source k tray tray' error
       → AnswersStep source target k tray tray' rack rack' result
   unwritten : (page : PageParts) (file : Option ℕ) → result ≡ Err (AtPage k (Write file))
       → IsPage page → IsPageMade source k tray tray' page
@@ -58,7 +58,7 @@ pub data AnswersStep (source : Sources) (target : Targets) (k : ℕ) (tray tray'
 pub record Steps (source : Sources) (target : Targets) (k : ℕ) (tray tray' : TrayState)
     (rack rack' : RackState) (result : Result (Unit {0}) TraprunError) : Type 0 where
   pub rack_keeps : KeepsRack rack rack'
-  pub told : IsTrue rack.tells → rack'.told ≡ rack.told
+  pub reported : IsTrue rack.tells → rack'.reported ≡ rack.reported
   pub in_hand : MayHold source.inputs k tray tray'
   pub answer : AnswersStep source target k tray tray' rack rack' result
 

@@ -2,13 +2,13 @@
 -- one.
 use Rattle.std.specs.Prelude.{◌≡◌, ℕ, Bool, false, IsTrue, List, [], ◌∷◌, Option, Some, None}
 use Rattle.std.specs.Prelude.{Result, Ok, Err}
-use Rattle.outside.specs.Causes.{Rose, Asks}
+use Rattle.outside.specs.ErrorCases.{Rose, Asks}
 use Rattle.outside.specs.Tray.{TrayState, KeepsTray}
 use Rattle.page_files.specs.Inputs.{Holds}
 use Rattle.page_files.specs.Looks.{HasTaken, LooksThrough, Sought}
 use Rattle.page_files.specs.Steps.{HaveNoFault, IsPlaneOfPage, TakesJob, may_hide}
-use Rattle.job_pages.specs.declared.run.RunRefusal.TheVariants.{Fault as JobFails}
-use Rattle.job_pages.specs.declared.run.RunRefusal.TheVariants.{TooManyPages as HasTooMany}
+use Rattle.job_pages.specs.declared.run.RunError.TheVariants.{Fault as JobFails}
+use Rattle.job_pages.specs.declared.run.RunError.TheVariants.{TooManyPages as HasTooMany}
 use Rattle.page_model.specs.declared.parts.Plane.{Plane}
 use Rattle.page_model.specs.Planes.{no_plane}
 use Rattle.pgm_plates.specs.declared.plate.Plate.{Plate as PlateRead}
@@ -16,13 +16,13 @@ use Rattle.pgm_plates.specs.declared.plate.PlateFault.{PlateFault}
 use Rattle.pgm_plates.specs.Planes.{plate_of}
 use Rattle.pgm_plates.specs.Sequences.{AreFewOfPage, StandsAfter}
 use Rattle.ps_tokens.specs.declared.faults.JobFault.{JobFault}
-use Rattle.traprun_cli.specs.declared.stop.TraprunError.{TraprunError}
-use Rattle.traprun_cli.specs.declared.stop.TraprunError.TheVariants.{Whole, TooManyPages}
-use Rattle.traprun_cli.specs.declared.stop.TraprunError.TheVariants.{AtPage}
-use Rattle.traprun_cli.specs.declared.stop.TraprunError.TheVariants.{Ends, Extra}
+use Rattle.traprun_cli.specs.declared.error.TraprunError.{TraprunError}
+use Rattle.traprun_cli.specs.declared.error.TraprunError.TheVariants.{Whole, TooManyPages}
+use Rattle.traprun_cli.specs.declared.error.TraprunError.TheVariants.{AtPage}
+use Rattle.traprun_cli.specs.declared.error.TraprunError.TheVariants.{Ends, Extra}
 use Rattle.traprun_cli.specs.Images.{HasImage, HasImageFault, HasNoImage}
 use Rattle.traprun_cli.specs.Pages.{pages_of}
-use Rattle.refusals.specs.declared.refusal.Refusal.TheVariants.{Job, Plate, Read, Memory}
+use Rattle.common_errors.specs.declared.common.CommonError.TheVariants.{Job, Plate, Read, Memory}
 
 -- The pages of a job of these bytes, or why there are none. A job that is read has its pages.
 pub data JudgesRun (bytes : List ℕ) (result : Result (List ℕ) TraprunError) : Type 0 where
@@ -79,9 +79,9 @@ abbrev pub LacksImage : ℕ → Option PlateFault → List ℕ → Type 0
 LacksImage page None bytes = HasNoImage page bytes
 LacksImage page (Some fault) bytes = HasImageFault page bytes fault
 
-abbrev pub image_stop : ℕ → ℕ → Option PlateFault → TraprunError
-image_stop page plate None = Ends page plate
-image_stop page plate (Some fault) = AtPage page (Plate plate fault)
+abbrev pub image_error : ℕ → ℕ → Option PlateFault → TraprunError
+image_error page plate None = Ends page plate
+image_error page plate (Some fault) = AtPage page (Plate plate fault)
 
 -- the image of a page, of each plate's file: its plane
 abbrev pub images_sought : ℕ → Sought Plane TraprunError
@@ -94,7 +94,7 @@ images_sought page = record {
   may_hide = hides;
   sound = AreUnbroken page;
   few = AreFewOfPage page;
-  refused = image_stop page;
+  refused = image_error page;
   unread = λ plate. AtPage page (Read (Some plate));
   memory = Whole Memory;
 }
@@ -109,9 +109,9 @@ abbrev pub GoesOn : ℕ → Option PlateFault → List ℕ → Type 0
 GoesOn pages None bytes = (another : PlateRead) × HasImage pages bytes another
 GoesOn pages (Some fault) bytes = HasImageFault pages bytes fault
 
-abbrev pub end_stop : ℕ → Option PlateFault → TraprunError
-end_stop plate None = Extra plate
-end_stop plate (Some fault) = Whole (Plate plate fault)
+abbrev pub end_error : ℕ → Option PlateFault → TraprunError
+end_error plate None = Extra plate
+end_error plate (Some fault) = Whole (Plate plate fault)
 
 -- the end of each plate's file after `pages` pages
 abbrev pub ends_sought : ℕ → Sought (Unit {0}) TraprunError
@@ -124,7 +124,7 @@ ends_sought pages = record {
   may_hide = hides;
   sound = AreUnbroken pages;
   few = AreFewOfPage pages;
-  refused = end_stop;
+  refused = end_error;
   unread = λ plate. Whole (Read (Some plate));
   memory = Whole Memory;
 }
@@ -134,5 +134,5 @@ abbrev pub ExpectsEnd : ℕ → List (List ℕ) → TrayState → TrayState
     → Result (Unit {0}) TraprunError → Type 0
 ExpectsEnd pages names before after (Ok nothing) =
     (ends : List (Unit {0})) × LooksThrough (ends_sought pages) names before after (Ok ends)
-ExpectsEnd pages names before after (Err stop) =
-    LooksThrough (ends_sought pages) names before after (Err stop)
+ExpectsEnd pages names before after (Err error) =
+    LooksThrough (ends_sought pages) names before after (Err error)

@@ -1,21 +1,21 @@
 -- What is to come of a job of many pages, by the bytes of its files. Nothing else is looked at.
 use Rattle.std.specs.Prelude.{◌≡◌, ℕ, ◌<◌, List, length, Option, Ok, Err}
 use Rattle.page_files.specs.Inputs.{Sources, Holds, AreRead, name_at}
-use Rattle.job_pages.specs.declared.run.RunRefusal.TheVariants.{Fault as JobFails}
-use Rattle.job_pages.specs.declared.run.RunRefusal.TheVariants.{TooManyPages as HasTooMany}
+use Rattle.job_pages.specs.declared.run.RunError.TheVariants.{Fault as JobFails}
+use Rattle.job_pages.specs.declared.run.RunError.TheVariants.{TooManyPages as HasTooMany}
 use Rattle.page_model.specs.declared.parts.PageParts.{PageParts}
 use Rattle.page_files.specs.Files.{Written}
 use Rattle.pgm_plates.specs.declared.plate.Plate.{Plate as PlateRead}
 use Rattle.job_reader.specs.declared.job.Job.{Job as JobRead}
-use Rattle.traprun_cli.specs.declared.stop.TraprunError.{TraprunError}
-use Rattle.traprun_cli.specs.declared.stop.TraprunError.TheVariants.{Whole, TooManyPages}
-use Rattle.traprun_cli.specs.declared.stop.TraprunError.TheVariants.{AtPage}
-use Rattle.traprun_cli.specs.declared.stop.TraprunError.TheVariants.{Ends, Extra}
+use Rattle.traprun_cli.specs.declared.error.TraprunError.{TraprunError}
+use Rattle.traprun_cli.specs.declared.error.TraprunError.TheVariants.{Whole, TooManyPages}
+use Rattle.traprun_cli.specs.declared.error.TraprunError.TheVariants.{AtPage}
+use Rattle.traprun_cli.specs.declared.error.TraprunError.TheVariants.{Ends, Extra}
 use Rattle.traprun_cli.specs.Images.{HasImage, HasImageFault, HasNoImage, page_decoder}
 use Rattle.traprun_cli.specs.Pages.{AreMade, pages_of, run_files, target_at}
-use Rattle.refusals.specs.declared.refusal.Refusal.TheVariants.{Job, Plate}
-use Rattle.refusals.specs.Statuses.{done}
-use Rattle.traprun_cli.specs.Stops.{status_of_stop}
+use Rattle.common_errors.specs.declared.common.CommonError.TheVariants.{Job, Plate}
+use Rattle.common_errors.specs.Statuses.{done}
+use Rattle.traprun_cli.specs.Errors.{status_of_error}
 use Rattle.page_files.specs.Verdicts.{Targets, IsFile, IsVerdict, Refused as PageRefused}
 
 -- what is to come
@@ -77,9 +77,9 @@ IsRunVerdict files source target (Stopped (Whole (Job fault))) =
     Holds files source.job (λ bytes. pages_of bytes ≡ Err (JobFails fault))
 IsRunVerdict files source target (Stopped (TooManyPages at)) =
     Holds files source.job (λ bytes. pages_of bytes ≡ Err (HasTooMany at))
-IsRunVerdict files source target (Stopped (AtPage k refusal)) =
+IsRunVerdict files source target (Stopped (AtPage k common_error)) =
     ComesTo files source k × IsVerdict (page_decoder k) files source (target_at target k)
-    (PageRefused refusal)
+    (PageRefused common_error)
 IsRunVerdict files source target (Stopped (Ends k plate)) =
     ComesTo files source k × PlateEnds files source k plate
 IsRunVerdict files source target (Stopped (Whole (Plate plate fault))) =
@@ -107,5 +107,5 @@ SomeRunVerdict = (files : List ℕ → Option (List ℕ)) (source : Sources) (ta
 
 -- the status that a verdict asks for
 abbrev pub status_of_verdict : RunVerdict → ℕ
-status_of_verdict (Stopped stop) = status_of_stop stop
+status_of_verdict (Stopped error) = status_of_error error
 status_of_verdict (Out written) = done

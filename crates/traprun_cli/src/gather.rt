@@ -1,13 +1,15 @@
 ghost use Rattle.std.specs.Prelude.{◌≡◌, Ok};
 ghost use Rattle.job_reader.specs.InRange.{IsJob};
 ghost use Rattle.job_pages.specs.Runs.{HasPage, page_job_of};
-ghost use Rattle.traprun_cli.specs.Gathering.{GathersPage, OpensJob, job_stop as job_stop_spec};
+ghost use Rattle.traprun_cli.specs.Gathering.{GathersPage, OpensJob, job_error as job_error_spec};
 ghost use Rattle.traprun_cli.specs.Opened.{IsOpenJob, IsWithin, order_in};
 ghost use Rattle.traprun_cli.specs.Words.{sources_of};
 
+use crate::error::{TraprunError, error_at};
 use crate::images::read_images;
 use crate::job::read_run_job;
 use crate::words::TraprunArgs;
+use common_errors::common::CommonError;
 use job_pages::many::ManyPages;
 use job_reader::job::Job;
 use lists::names::NameList;
@@ -15,10 +17,8 @@ use outside::tray::Tray;
 use page_files::assemble::assemble_planes;
 use page_model::page::Page;
 use plain_words::files::{plate_inputs, plate_names};
-use ps_tokens::faults::JobRefusal;
-use refusals::refusal::Refusal;
+use ps_tokens::faults::JobError;
 use std::alloc::Global;
-use crate::stop::{TraprunError, stop_at};
 
 /// A run whose job was read: its arguments, the names of its plates' colorants and their files, and its job.
 #[derive(Drop)]
@@ -43,7 +43,7 @@ pub fn open_job<'a, T: Tray>(
         plate_inputs(alloc, order.plates),
     ) {
         (Ok(names), Ok(inputs)) => (names, inputs),
-        _ => return Err(TraprunError::Whole(Refusal::Memory)),
+        _ => return Err(TraprunError::Whole(CommonError::Memory)),
     };
     match read_run_job(alloc, tray, order.job) {
         Ok(job) => Ok(OpenJob {
@@ -52,13 +52,13 @@ pub fn open_job<'a, T: Tray>(
             inputs,
             job,
         }),
-        Err(stop) => Err(stop),
+        Err(error) => Err(error),
     }
 }
 
 /// Reads the page of that number, counted from 0: its job, and the image of each plate; and makes a page of them.
 ///
-/// It stops at the first refusal: the job's fault, a read that fails, a plate whose file has no image for the page or a
+/// It stops at the first error: the job's fault, a read that fails, a plate whose file has no image for the page or a
 /// fault, a plate without details, a fault of the page, or out of memory. No file is begun after the one that is
 /// refused.
 pub fn gather_page<T: Tray>(
@@ -75,17 +75,17 @@ pub fn gather_page<T: Tray>(
 {
     match opened.job.job(alloc, page) {
         Ok(job) => gather_images(alloc, job, opened, page, tray),
-        Err(refusal) => Err(job_stop(page, refusal)),
+        Err(common_error) => Err(job_error(page, common_error)),
     }
 }
 
-// Adds the page number to a refusal of its job. Out of memory is reported without one.
-fn job_stop(page: u32, refusal: JobRefusal) -> TraprunError
-    ensures { result ≡ job_stop_spec page refusal }
+// Adds the page number to a error of its job. Out of memory is reported without one.
+fn job_error(page: u32, common_error: JobError) -> TraprunError
+    ensures { result ≡ job_error_spec page common_error }
 {
-    match refusal {
-        JobRefusal::Fault(fault) => TraprunError::AtPage(page, Refusal::Job(fault)),
-        JobRefusal::OutOfMemory => TraprunError::Whole(Refusal::Memory),
+    match common_error {
+        JobError::Fault(fault) => TraprunError::AtPage(page, CommonError::Job(fault)),
+        JobError::OutOfMemory => TraprunError::Whole(CommonError::Memory),
     }
 }
 
@@ -107,8 +107,8 @@ fn gather_images<T: Tray>(
     match read_images(alloc, tray, page, opened.inputs.as_slice()) {
         Ok(planes) => match assemble_planes(alloc, job, planes, &opened.names) {
             Ok(made) => Ok(made),
-            Err(refusal) => Err(stop_at(page, refusal)),
+            Err(common_error) => Err(error_at(page, common_error)),
         },
-        Err(stop) => Err(stop),
+        Err(error) => Err(error),
     }
 }

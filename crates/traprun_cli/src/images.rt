@@ -2,14 +2,14 @@ ghost use Rattle.std.specs.Prelude.{◌<◌, ◌≤◌, length, map};
 ghost use Rattle.traprun_cli.specs.Reading.{ExpectsEnd, ReadsImages, ends_sought, images_sought};
 ghost use Rattle.page_model.specs.Limits.{most_plates};
 
+use crate::error::TraprunError;
+use common_errors::common::CommonError;
 use outside::tray::Tray;
 use page_files::looks::{Look, look_through};
 use page_model::parts::{Plane, PlaneList};
 use pgm_plates::pages::{read_page, read_page_plane};
-use pgm_plates::plate::PlateRefusal;
-use refusals::refusal::Refusal;
+use pgm_plates::plate::PlateError;
 use std::alloc::Global;
-use crate::stop::TraprunError;
 
 /// Reads the plane of that page's image from each of these files in order, up to the first that is refused. No file is
 /// begun after it.
@@ -40,7 +40,7 @@ pub(crate) fn expect_end<T: Tray>(
 {
     match look_through(alloc, tray, inputs, &Ends { pages }) {
         Ok(_) => Ok(()),
-        Err(stop) => Err(stop),
+        Err(error) => Err(error),
     }
 }
 
@@ -53,7 +53,7 @@ struct Images {
 impl Look for Images {
     type Found = Plane;
 
-    type Refusal = TraprunError;
+    type CommonError = TraprunError;
 
     ghost sought = { λ look. images_sought look.page };
 
@@ -67,18 +67,18 @@ impl Look for Images {
         match read_page_plane(alloc, tray, name, self.page) {
             Ok(Some(plane)) => Ok(plane),
             Ok(None) => Err(TraprunError::Ends(self.page, number)),
-            Err(PlateRefusal::Fault(fault)) => {
-                Err(TraprunError::AtPage(self.page, Refusal::Plate(number, fault)))
+            Err(PlateError::Fault(fault)) => {
+                Err(TraprunError::AtPage(self.page, CommonError::Plate(number, fault)))
             }
-            Err(PlateRefusal::ReadFault) => {
-                Err(TraprunError::AtPage(self.page, Refusal::Read(Some(number))))
+            Err(PlateError::ReadFault) => {
+                Err(TraprunError::AtPage(self.page, CommonError::Read(Some(number))))
             }
-            Err(PlateRefusal::OutOfMemory) => Err(TraprunError::Whole(Refusal::Memory)),
+            Err(PlateError::OutOfMemory) => Err(TraprunError::Whole(CommonError::Memory)),
         }
     }
 
     fn no_memory(&self) -> TraprunError {
-        TraprunError::Whole(Refusal::Memory)
+        TraprunError::Whole(CommonError::Memory)
     }
 }
 
@@ -91,7 +91,7 @@ struct Ends {
 impl Look for Ends {
     type Found = ();
 
-    type Refusal = TraprunError;
+    type CommonError = TraprunError;
 
     ghost sought = { λ look. ends_sought look.pages };
 
@@ -105,15 +105,15 @@ impl Look for Ends {
         match read_page(alloc, tray, name, self.pages) {
             Ok(None) => Ok(()),
             Ok(Some(_)) => Err(TraprunError::Extra(number)),
-            Err(PlateRefusal::Fault(fault)) => {
-                Err(TraprunError::Whole(Refusal::Plate(number, fault)))
+            Err(PlateError::Fault(fault)) => {
+                Err(TraprunError::Whole(CommonError::Plate(number, fault)))
             }
-            Err(PlateRefusal::ReadFault) => Err(TraprunError::Whole(Refusal::Read(Some(number)))),
-            Err(PlateRefusal::OutOfMemory) => Err(TraprunError::Whole(Refusal::Memory)),
+            Err(PlateError::ReadFault) => Err(TraprunError::Whole(CommonError::Read(Some(number)))),
+            Err(PlateError::OutOfMemory) => Err(TraprunError::Whole(CommonError::Memory)),
         }
     }
 
     fn no_memory(&self) -> TraprunError {
-        TraprunError::Whole(Refusal::Memory)
+        TraprunError::Whole(CommonError::Memory)
     }
 }

@@ -1,6 +1,7 @@
 //! The top call of the program `traprun`: jobs of many pages, and plate files of one image for each page.
 #![tactic(auto)]
 
+pub mod error;
 mod files;
 mod gather;
 mod images;
@@ -8,7 +9,6 @@ mod job;
 pub mod laws;
 mod page;
 mod run;
-pub mod stop;
 pub mod telling;
 pub mod top;
 mod words;

@@ -5,18 +5,18 @@ ghost use Rattle.traprun_cli.specs.Paging.{PutsPage, StepsPage};
 ghost use Rattle.traprun_cli.specs.Opened.{IsOpenJob, IsWithin, order_in};
 ghost use Rattle.traprun_cli.specs.Words.{sources_of, targets_of};
 
+use crate::error::{TraprunError, error_at};
 use crate::files::{numbered_name, outputs_at};
 use crate::gather::{OpenJob, gather_page};
 use crate::words::TraprunArgs;
 use band_claims::Gate;
+use common_errors::common::CommonError;
 use outside::rack::Rack;
 use outside::tray::Tray;
 use page_model::page::Page;
 use page_output::output::{OutputArgs, put_out};
-use refusals::refusal::Refusal;
 use std::alloc::Global;
 use std::thread::Threads;
-use crate::stop::{TraprunError, stop_at};
 
 /// Reads the page of that number, traps it, and writes its files.
 pub(crate) fn trap_one<H: Threads + Sync, T: Tray, R: Rack, G: Gate + Sync>(
@@ -36,7 +36,7 @@ pub(crate) fn trap_one<H: Threads + Sync, T: Tray, R: Rack, G: Gate + Sync>(
 {
     match gather_page(alloc, opened, page, tray) {
         Ok(made) => put_page(rt, alloc, opened.order, page, &made, rack, gate),
-        Err(stop) => Err(stop),
+        Err(error) => Err(error),
     }
 }
 
@@ -61,7 +61,7 @@ fn put_page<H: Threads + Sync, R: Rack, G: Gate + Sync>(
         numbered_name(alloc, order.report, number),
     ) {
         (Ok(outputs), Ok(report)) => (outputs, report),
-        _ => return Err(TraprunError::Whole(Refusal::Memory)),
+        _ => return Err(TraprunError::Whole(CommonError::Memory)),
     };
     let files = OutputArgs {
         workers: order.workers,
@@ -71,6 +71,6 @@ fn put_page<H: Threads + Sync, R: Rack, G: Gate + Sync>(
     };
     match put_out(rt, alloc, page, &files, rack, gate) {
         Ok(_receipt) => Ok(()),
-        Err(refusal) => Err(stop_at(number, refusal)),
+        Err(common_error) => Err(error_at(number, common_error)),
     }
 }

@@ -3,18 +3,18 @@ ghost use Rattle.traprun_cli.specs.Endings.{EndsRun, Runs, RunsFrom, TrapsPages}
 ghost use Rattle.traprun_cli.specs.Opened.{IsOpenJob, IsWithin, order_in};
 ghost use Rattle.traprun_cli.specs.Words.{sources_of, targets_of};
 
+use crate::error::TraprunError;
 use crate::gather::{OpenJob, open_job};
 use crate::images::expect_end;
 use crate::page::trap_one;
+use crate::telling::refuse_run;
 use crate::words::TraprunArgs;
 use band_claims::Gate;
+use common_errors::statuses::DONE;
 use outside::rack::Rack;
 use outside::tray::Tray;
-use refusals::statuses::DONE;
 use std::alloc::Global;
 use std::thread::Threads;
-use crate::stop::TraprunError;
-use crate::telling::refuse_run;
 
 // Runs the command, and returns the status that it ends with.
 pub(crate) fn run_order<H: Threads + Sync, T: Tray, R: Rack, G: Gate + Sync>(
@@ -31,7 +31,7 @@ pub(crate) fn run_order<H: Threads + Sync, T: Tray, R: Rack, G: Gate + Sync>(
 {
     match carry_out(rt, alloc, order, tray, rack, gate) {
         Ok(()) => DONE,
-        Err(stop) => refuse_run(rack, &stop),
+        Err(error) => refuse_run(rack, &error),
     }
 }
 
@@ -51,7 +51,7 @@ fn carry_out<H: Threads + Sync, T: Tray, R: Rack, G: Gate + Sync>(
 {
     match open_job(alloc, order, tray) {
         Ok(opened) => trap_job(rt, alloc, &opened, tray, rack, gate),
-        Err(stop) => Err(stop),
+        Err(error) => Err(error),
     }
 }
 
@@ -71,7 +71,7 @@ fn trap_job<H: Threads + Sync, T: Tray, R: Rack, G: Gate + Sync>(
 {
     match trap_pages(rt, alloc, opened, tray, rack, gate) {
         Ok(()) => expect_end(alloc, tray, opened.job.count(), opened.inputs.as_slice()),
-        Err(stop) => Err(stop),
+        Err(error) => Err(error),
     }
 }
 
@@ -92,7 +92,7 @@ fn trap_pages<H: Threads + Sync, T: Tray, R: Rack, G: Gate + Sync>(
     for page in 0..opened.job.count() {
         match trap_one(rt, alloc, opened, page, tray, rack, gate) {
             Ok(()) => {}
-            Err(stop) => return Err(stop),
+            Err(error) => return Err(error),
         }
     }
     Ok(())

@@ -1,45 +1,45 @@
 ghost use Rattle.std.specs.Prelude.{◌≡◌, ◌++◌, ◌≤◌, length, decimal};
-ghost use Rattle.refusals.specs.Lines.{line};
-ghost use Rattle.traprun_cli.specs.Stops.{RefusesRun, line_of_stop};
+ghost use Rattle.common_errors.specs.Lines.{line};
+ghost use Rattle.traprun_cli.specs.Errors.{RefusesRun, line_of_error};
 
-use crate::stop::{TraprunError, stop_status};
+use crate::error::{TraprunError, error_status};
+use common_errors::fault_line::{fault_line, numbered_line};
+use common_errors::line::Line;
+use common_errors::telling::tell_line;
 use outside::rack::Rack;
-use refusals::fault_line::{fault_line, numbered_line};
-use refusals::line::Line;
-use refusals::telling::tell_line;
 
 /// Prints the line of a stop and returns its status, whether or not the line could be printed.
-pub fn refuse_run<R: Rack>(rack: &mut R, stop: &TraprunError) -> u8
-    ensures { RefusesRun stop.now (R.state rack.old) (R.state rack.new) result }
+pub fn refuse_run<R: Rack>(rack: &mut R, error: &TraprunError) -> u8
+    ensures { RefusesRun error.now (R.state rack.old) (R.state rack.new) result }
 {
-    tell_line(rack, &stop_line(stop));
-    stop_status(stop)
+    tell_line(rack, &error_line(error));
+    error_status(error)
 }
 
 /// The line that is printed for a stop, its LF included. The form is this project's own.
-pub fn stop_line(stop: &TraprunError) -> Line
-    ensures { result ≡ line_of_stop stop.now }
+pub fn error_line(error: &TraprunError) -> Line
+    ensures { result ≡ line_of_error error.now }
 {
-    match stop {
-        TraprunError::Whole(refusal) => fault_line(refusal),
+    match error {
+        TraprunError::Whole(common_error) => fault_line(common_error),
         TraprunError::TooManyPages(at) => number_line(b"run: TooManyPages at ", *at, b""),
-        TraprunError::AtPage(page, refusal) => numbered_line(*page, refusal),
+        TraprunError::AtPage(page, common_error) => numbered_line(*page, common_error),
         TraprunError::Ends(page, plate) => ends_line(*page, *plate),
         TraprunError::Extra(plate) => number_line(b"run: plate ", *plate, b": Extra"),
     }
 }
 
 fn ends_line(page: u32, plate: u32) -> Line
-    ensures { result ≡ line_of_stop (TraprunError.Ends page plate) }
+    ensures { result ≡ line_of_error (TraprunError.Ends page plate) }
 {
-    let mut told = Line::new();
-    told.push(b"page ");
-    told.push_number(page as u64);
-    told.push(b": plate ");
-    told.push_number(plate as u64);
-    told.push(b": Ends");
-    told.push(b"\n");
-    told
+    let mut reported = Line::new();
+    reported.push(b"page ");
+    reported.push_number(page as u64);
+    reported.push(b": plate ");
+    reported.push_number(plate as u64);
+    reported.push(b": Ends");
+    reported.push(b"\n");
+    reported
 }
 
 // A line of a number between two texts.
@@ -48,10 +48,10 @@ fn number_line(before: &[u8], number: u32, suffix: &[u8]) -> Line
     requires suffix { length suffix.now ≤ 50 }
     ensures { result ≡ line (before.now ++ decimal number ++ suffix.now) }
 {
-    let mut told = Line::new();
-    told.push(before);
-    told.push_number(number as u64);
-    told.push(suffix);
-    told.push(b"\n");
-    told
+    let mut reported = Line::new();
+    reported.push(before);
+    reported.push_number(number as u64);
+    reported.push(suffix);
+    reported.push(b"\n");
+    reported
 }

@@ -6,11 +6,11 @@ ghost use Rattle.traprun_cli.specs.Text.{usage_line as usage_spec};
 use crate::run::run_order;
 use crate::words::read_words;
 use band_claims::Gate;
+use common_errors::line::Line;
+use common_errors::statuses::USAGE;
+use common_errors::telling::tell_line;
 use outside::rack::Rack;
 use outside::tray::Tray;
-use refusals::line::Line;
-use refusals::statuses::USAGE;
-use refusals::telling::tell_line;
 use std::alloc::Global;
 use std::thread::Threads;
 
@@ -24,7 +24,7 @@ use std::thread::Threads;
 ///
 /// The status is 0 if all pages are written; 2 if the words are no command; 3 if the job has a fault, or lacks the
 /// details of a plate's colorant; 4 if a plate's file has a fault, too few images or too many, or the plates do not
-/// make a page; 5 if a read failed; 6 if a write failed; and 7 if memory ran out. Each refusal prints one line that
+/// make a page; 5 if a read failed; 6 if a write failed; and 7 if memory ran out. Each error prints one line that
 /// names the cause. If a run stops at one page, the files of the pages before it are whole.
 pub fn traprun_main<H: Threads + Sync, T: Tray, R: Rack, G: Gate + Sync>(
     rt: &H,

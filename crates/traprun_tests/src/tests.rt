@@ -11,7 +11,6 @@ use lists::list::List;
 use outside::mem_file::FileList;
 use outside::mem_rack::MemRack;
 use outside::mem_tray::MemTray;
-use traprun_cli::top::traprun_main;
 use std::alloc::Global;
 use std::process::Abort;
 use std::thread::Threads;
@@ -19,6 +18,7 @@ use test_files::{
     CYAN, DISABLED, INKS, MAGENTA, TRAPPED_CYAN, TRAPPED_MAGENTA, TRAPPED_REPORT, UNSLID_CYAN,
     UNSLID_REPORT, UNTRAPPED_REPORT, WIDE, put_file, rack_of, tray_of, words_of,
 };
+use traprun_cli::top::traprun_main;
 
 const SHOW: &[u8] = b" showpage";
 
@@ -155,14 +155,14 @@ fn files_end(
 
 fn looks(rack: &MemRack, look: Look<'_>) -> bool {
     match look {
-        Look::Left(told, files) => tells(rack, told) && holds(rack, files),
-        Look::Broken(told, count) => tells(rack, told) && holds_prefix(rack, count),
-        Look::Some(told, files) => tells(rack, told) && holds_some(rack, files),
+        Look::Left(reported, files) => tells(rack, reported) && holds(rack, files),
+        Look::Broken(reported, count) => tells(rack, reported) && holds_prefix(rack, count),
+        Look::Some(reported, files) => tells(rack, reported) && holds_some(rack, files),
     }
 }
 
-fn tells(rack: &MemRack, told: &str) -> bool {
-    rack.told() == told.as_bytes()
+fn tells(rack: &MemRack, reported: &str) -> bool {
+    rack.reported() == reported.as_bytes()
 }
 
 // Whether of the files of WRITTEN these stand there, from the first on, and no more.

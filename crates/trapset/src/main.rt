@@ -1,9 +1,9 @@
 //! The program `trapset`: passes its words, the disk and standard output to the top call.
 #![tactic(auto)]
 
+use common_errors::words::words;
 use outside::disk_rack::DiskRack;
 use outside::disk_tray::DiskTray;
-use refusals::words::words;
 use std::process::ExitCode;
 use trapset_cli::top::trapset_main;
 

@@ -1,7 +1,7 @@
 -- How `apply` ends, from how its plates and its set are read and its plates written.
 use Rattle.std.proofs.Common.{◌≡◌, ◌⊎◌, ℕ, ◌<◌, ◌≤◌, Bool, true, false, min, List, [], ◌∷◌, ◌++◌, length, map, take, Option, Some, None, Result, Ok, Err, IsTrue, inl, inr, refl, sym, ap, ◌∙◌, subst, arith}
 use Rattle.std.proofs.lemmas.List.{length-map, take-append-le, take_min}
-use Rattle.outside.specs.Causes.{Asks, AsksPrefix}
+use Rattle.outside.specs.ErrorCases.{Asks, AsksPrefix}
 use Rattle.outside.specs.Tray.{TrayState}
 use Rattle.outside.specs.Rack.{RackState, KeepsRack}
 use Rattle.outside.proofs.Names.{asks_all, asks_then}
@@ -21,19 +21,19 @@ use Rattle.pgm_plates.specs.Planes.{plate_of}
 use Rattle.pgm_plates.specs.Plates.{IsPlateFile}
 use Rattle.pgm_plates.specs.Reading.{AreFew}
 use Rattle.plain_words.specs.Parts.{CopyNames, copy_of}
-use Rattle.trapset_cli.specs.declared.cause.TrapsetError.{TrapsetError}
-use Rattle.trapset_cli.specs.declared.cause.TrapsetError.TheVariants as causes
+use Rattle.trapset_cli.specs.declared.reason.TrapsetError.{TrapsetError}
+use Rattle.trapset_cli.specs.declared.reason.TrapsetError.TheVariants as errors
 use Rattle.trapset_cli.specs.Commands.{inputs_of, read_names}
 use Rattle.trapset_cli.specs.Endings.{Answers, CarriesOut, NotRead, SetInHand}
 use Rattle.trapset_cli.specs.Putting.{AnswersPatch, AreInRange, Patches, PatchesPlanes, PutsPlates}
 use Rattle.trapset_cli.proofs.PlanesInRange.{kept_in_range, read_in_range}
 use Rattle.trapset_cli.specs.Verdicts.{ArePlanes}
 use Rattle.trapset_cli.specs.Words.{ApplyWords, Apply, outputs_of}
-use Rattle.refusals.specs.declared.refusal.Refusal.{Refusal}
-use Rattle.refusals.specs.declared.refusal.Refusal.TheVariants as refusals
+use Rattle.common_errors.specs.declared.common.CommonError.{CommonError}
+use Rattle.common_errors.specs.declared.common.CommonError.TheVariants as reasons
 use Rattle.trap_set.specs.Applying.{AppliesSet, EndsWith}
-use Rattle.trap_set.specs.declared.apply.SetRefusal.{SetRefusal}
-use Rattle.trap_set.specs.declared.apply.SetRefusal.TheVariants as set_refusals
+use Rattle.trap_set.specs.declared.apply.SetError.{SetError}
+use Rattle.trap_set.specs.declared.apply.SetError.TheVariants as set_errors
 
 -- the names up to the plate that was refused are a prefix of all that are read
 prefix_on : (a b : Option (List (List ℕ))) (names more : List (List ℕ)) → AsksPrefix a b names → AsksPrefix a b (names ++ more)
@@ -45,41 +45,41 @@ prefix_on a (Some all) names more f =
 
 -- a plate is refused
 module _ (words : ApplyWords) (a b : TrayState) where
-  plate_not_patched : (refusal : Refusal) (k : ℕ) → StopsAt plates_sought (inputs_of words) k a b → Refuses plates_sought k (name_at (inputs_of words) k) a b refusal → NotRead (Apply words) a b (causes.Page refusal)
-  plate_not_patched refusal k at (Refuses.refused fault is count held) = subst (λ (r : Refusal). NotRead (Apply words) a b (causes.Page r)) (sym is) (NotRead.refused (inl refl) (plate_count (Unit {0}) k a b fault count) at.asked (λ tells. record {
+  plate_not_patched : (error : CommonError) (k : ℕ) → StopsAt plates_sought (inputs_of words) k a b → Refuses plates_sought k (name_at (inputs_of words) k) a b error → NotRead (Apply words) a b (errors.Page error)
+  plate_not_patched error k at (Refuses.refused fault is count stored) = subst (λ (r : CommonError). NotRead (Apply words) a b (errors.Page r)) (sym is) (NotRead.refused (inl refl) (plate_count (Unit {0}) k a b fault count) at.asked (λ tells. record {
     known = at.known;
     plates = map plate_of at.found;
     before = plates_found IsPlateFile a.file (inputs_of words) k at.found (at.before_it tells);
-    broken = held tells;
+    broken = stored tells;
   }))
-  plate_not_patched refusal k at (Refuses.unread is rose taken) = subst (λ (r : Refusal). NotRead (Apply words) a b (causes.Page r)) (sym is) (NotRead.unread refl rose at.asked (record {
+  plate_not_patched error k at (Refuses.unread is rose taken) = subst (λ (r : CommonError). NotRead (Apply words) a b (errors.Page r)) (sym is) (NotRead.unread refl rose at.asked (record {
     known = at.known;
     plates = map plate_of at.found;
     before_it = λ tells. plates_found IsPlateFile a.file (inputs_of words) k at.found (at.before_it tells);
     in_hand = taken;
   }))
-  plate_not_patched refusal k at (Refuses.no_memory is calm) = NotRead.no_memory (ap causes.Page is) calm
+  plate_not_patched error k at (Refuses.no_memory is calm) = NotRead.no_memory (ap errors.Page is) calm
 
-  plate_refused : (refusal : Refusal) → 0 < length (inputs_of words) → ReadsPlates (inputs_of words) a b (Err refusal) → PatchesPlanes words a b (Err (causes.Page refusal))
-  plate_refused refusal some reads = record {
-    asked = prefix_on a.asked b.asked (inputs_of words) (words.set ∷ []) (refused_prefix plates_sought (inputs_of words) a b refusal reads.answer);
+  plate_refused : (error : CommonError) → 0 < length (inputs_of words) → ReadsPlates (inputs_of words) a b (Err error) → PatchesPlanes words a b (Err (errors.Page error))
+  plate_refused error some reads = record {
+    asked = prefix_on a.asked b.asked (inputs_of words) (words.set ∷ []) (refused_prefix plates_sought (inputs_of words) a b error reads.answer);
     in_hand = inr (inl (some_in_hand AreFew (inputs_of words) (length (inputs_of words)) a b some reads.in_hand));
-    answer = plate_not_patched refusal reads.answer.0 reads.answer.1 reads.answer.2;
+    answer = plate_not_patched error reads.answer.0 reads.answer.1 reads.answer.2;
   }
 
 -- there are as many words as plates
 pub some_plates : {X : Type 0} (text : X → List ℕ) (words : List X) → 1 ≤ length words → 0 < length (map copy_of (map text words))
 some_plates text words some = omega (arith, some, length-map (map text words) copy_of, length-map words text)
 
-pub plates_unread : (words : ApplyWords) (a b : TrayState) (names : List (List ℕ)) (refusal : Refusal) → names ≡ inputs_of words → 0 < length words.plates → ReadsPlates names a b (Err refusal) → PatchesPlanes words a b (Err (causes.Page refusal))
-plates_unread words a b names refusal named some reads = plate_refused words a b refusal (omega (arith, some, length-map words.plates (λ (p : CopyNames). p.input))) (subst (λ (ns : List (List ℕ)). ReadsPlates ns a b (Err refusal)) named reads)
+pub plates_unread : (words : ApplyWords) (a b : TrayState) (names : List (List ℕ)) (error : CommonError) → names ≡ inputs_of words → 0 < length words.plates → ReadsPlates names a b (Err error) → PatchesPlanes words a b (Err (errors.Page error))
+plates_unread words a b names error named some reads = plate_refused words a b error (omega (arith, some, length-map words.plates (λ (p : CopyNames). p.input))) (subst (λ (ns : List (List ℕ)). ReadsPlates ns a b (Err error)) named reads)
 
 -- a file was begun, unless a read failed
 begun_or : (b : Bool) → (b ≡ true) ⊎ (b ≡ false)
 begun_or true = inl refl
 begun_or false = inr refl
 
-was_begun : {T : Type 0} (name : List ℕ) (b c : TrayState) (old new : List Plane) (result : Result T SetRefusal) → AppliesSet name b c old new result → (result ≡ Err set_refusals.ReadFault → ⊥) → IsTrue c.begun
+was_begun : {T : Type 0} (name : List ℕ) (b c : TrayState) (old new : List Plane) (result : Result T SetError) → AppliesSet name b c old new result → (result ≡ Err set_errors.ReadFault → ⊥) → IsTrue c.begun
 was_begun name b c old new result app other = elim (begun_or c.begun) [ inl begun ↦ begun | inr none ↦ absurd (other (app.not_begun none).1) ]
 
 -- the set after the plates
@@ -102,7 +102,7 @@ module _ (law : PlaneTurnsBack) (words : ApplyWords) (a b c : TrayState) (old : 
 
   patch_answer : (result : Result (List Plane) TrapsetError) → Patches words.set old b c result → AnswersPatch words a c result
   patch_answer (Ok new) app =
-      let begun = was_begun words.set b c old new (Ok tt) app (λ (e : ◌≡◌ {A = Result (Unit {0}) SetRefusal} (Ok tt) (Err set_refusals.ReadFault)). absurd cc) in (
+      let begun = was_begun words.set b c old new (Ok tt) app (λ (e : ◌≡◌ {A = Result (Unit {0}) SetError} (Ok tt) (Err set_errors.ReadFault)). absurd cc) in (
         app.count ∙ reads.answer.3,
         all_asked app.asked,
         kept_in_range old new (length (inputs_of words)) app.planes in_range,
@@ -110,26 +110,26 @@ module _ (law : PlaneTurnsBack) (words : ApplyWords) (a b c : TrayState) (old : 
             (let says = app.says begun (reads.keeps.tells ∙ tells) in
             record { planes = old; read = are_planes tells; set = (says.0, same_file says.0 says.1, record { head = says.2.head; runs = says.2.runs; is_file = says.2.is_file; fits = says.2.fits; planes_are = says.2.planes }) }),
       )
-  patch_answer (Err (causes.BadLine n)) (new, app) =
-      let begun = was_begun words.set b c old new (Err (set_refusals.BadLine n)) app (λ (e : ◌≡◌ {A = Result (Unit {0}) SetRefusal} (Err (set_refusals.BadLine n)) (Err set_refusals.ReadFault)). absurd cc) in
+  patch_answer (Err (errors.BadLine n)) (new, app) =
+      let begun = was_begun words.set b c old new (Err (set_errors.BadLine n)) app (λ (e : ◌≡◌ {A = Result (Unit {0}) SetError} (Err (set_errors.BadLine n)) (Err set_errors.ReadFault)). absurd cc) in
       NotRead.refused (inr refl) (app.count ∙ reads.answer.3) (all_asked app.asked) (λ tells.
       (let says = app.says begun (reads.keeps.tells ∙ tells) in
       record { planes = old; read = are_planes tells; set = (says.0, same_file says.0 says.1, record { good = says.2.good; is = says.2.is; bad = says.2.bad; same = says.2.same }) }))
-  patch_answer (Err causes.Differs) (new, app) =
-      let begun = was_begun words.set b c old new (Err set_refusals.Differs) app (λ (e : ◌≡◌ {A = Result (Unit {0}) SetRefusal} (Err set_refusals.Differs) (Err set_refusals.ReadFault)). absurd cc) in
+  patch_answer (Err errors.Differs) (new, app) =
+      let begun = was_begun words.set b c old new (Err set_errors.Differs) app (λ (e : ◌≡◌ {A = Result (Unit {0}) SetError} (Err set_errors.Differs) (Err set_errors.ReadFault)). absurd cc) in
       NotRead.refused (inr refl) (app.count ∙ reads.answer.3) (all_asked app.asked) (λ tells.
       (let says = app.says begun (reads.keeps.tells ∙ tells) in
       record { planes = old; read = are_planes tells; set = (says.0, same_file says.0 says.1, says.2.0) }))
-  patch_answer (Err causes.SetUnread) (new, app) = NotRead.unread refl (rose_before a.faults b.faults c.faults reads.keeps.faults app.count) (all_asked app.asked) (record {
+  patch_answer (Err errors.SetUnread) (new, app) = NotRead.unread refl (rose_before a.faults b.faults c.faults reads.keeps.faults app.count) (all_asked app.asked) (record {
     planes = old;
     before_it = are_planes;
     in_hand = λ begun tells.
         (let says = app.says begun (reads.keeps.tells ∙ tells) in
         (says.0, new, same_file says.0 says.1, says.2));
   })
-  patch_answer (Err causes.NoCommand) app = absurd app
-  patch_answer (Err (causes.Page refusal)) app = absurd app
-  patch_answer (Err causes.SetUnwritten) app = absurd app
+  patch_answer (Err errors.NoCommand) app = absurd app
+  patch_answer (Err (errors.Page error)) app = absurd app
+  patch_answer (Err errors.SetUnwritten) app = absurd app
 
   -- what was taken of the set, whatever its answer
   abbrev SetTaken : Type 0
@@ -137,12 +137,12 @@ module _ (law : PlaneTurnsBack) (words : ApplyWords) (a b c : TrayState) (old : 
 
   set_taken : (result : Result (List Plane) TrapsetError) → Patches words.set old b c result → SetTaken
   set_taken (Ok new) app = (app.asked, app.taken)
-  set_taken (Err (causes.BadLine n)) (new, app) = (app.asked, app.taken)
-  set_taken (Err causes.Differs) (new, app) = (app.asked, app.taken)
-  set_taken (Err causes.SetUnread) (new, app) = (app.asked, app.taken)
-  set_taken (Err causes.NoCommand) app = absurd app
-  set_taken (Err (causes.Page refusal)) app = absurd app
-  set_taken (Err causes.SetUnwritten) app = absurd app
+  set_taken (Err (errors.BadLine n)) (new, app) = (app.asked, app.taken)
+  set_taken (Err errors.Differs) (new, app) = (app.asked, app.taken)
+  set_taken (Err errors.SetUnread) (new, app) = (app.asked, app.taken)
+  set_taken (Err errors.NoCommand) app = absurd app
+  set_taken (Err (errors.Page error)) app = absurd app
+  set_taken (Err errors.SetUnwritten) app = absurd app
 
   set_in_hand : SetTaken → SetInHand words a c
   set_in_hand set = record {
@@ -186,7 +186,7 @@ module _ (words : ApplyWords) (planes : List Plane) (a b : TrayState) (r r' : Ra
     created = subst (λ (names : List (List ℕ)). Asks r.asked r'.asked names) (plates_names (outputs_of words.plates) planes in_all) puts.answer.asked;
     finished = subst (λ (names : List (List ℕ)). FinishesAll names r r') (plates_names (outputs_of words.plates) planes in_all) puts.answer.finished;
   }
-  wrote_answer (Err (causes.Page (refusals.Write (Some k)))) some puts = inr (
+  wrote_answer (Err (errors.Page (reasons.Write (Some k)))) some puts = inr (
     record {
       calm = patches.answer.0;
       begun = patches.answer.1;
@@ -198,37 +198,37 @@ module _ (words : ApplyWords) (planes : List Plane) (a b : TrayState) (r r' : Ra
     },
     puts.once,
   )
-  wrote_answer (Err (causes.Page (refusals.Write None))) some puts = absurd puts.answer
-  wrote_answer (Err (causes.Page refusals.Usage)) some puts = absurd puts.answer
-  wrote_answer (Err (causes.Page (refusals.Job fault))) some puts = absurd puts.answer
-  wrote_answer (Err (causes.Page (refusals.NoDetails k))) some puts = absurd puts.answer
-  wrote_answer (Err (causes.Page (refusals.Plate k fault))) some puts = absurd puts.answer
-  wrote_answer (Err (causes.Page (refusals.Page fault))) some puts = absurd puts.answer
-  wrote_answer (Err (causes.Page (refusals.Read file))) some puts = absurd puts.answer
-  wrote_answer (Err (causes.Page refusals.Memory)) some puts = absurd puts.answer
-  wrote_answer (Err causes.NoCommand) some puts = absurd puts
-  wrote_answer (Err causes.SetUnread) some puts = absurd puts
-  wrote_answer (Err causes.SetUnwritten) some puts = absurd puts
-  wrote_answer (Err (causes.BadLine n)) some puts = absurd puts
-  wrote_answer (Err causes.Differs) some puts = absurd puts
+  wrote_answer (Err (errors.Page (reasons.Write None))) some puts = absurd puts.answer
+  wrote_answer (Err (errors.Page reasons.Usage)) some puts = absurd puts.answer
+  wrote_answer (Err (errors.Page (reasons.Job fault))) some puts = absurd puts.answer
+  wrote_answer (Err (errors.Page (reasons.NoDetails k))) some puts = absurd puts.answer
+  wrote_answer (Err (errors.Page (reasons.Plate k fault))) some puts = absurd puts.answer
+  wrote_answer (Err (errors.Page (reasons.Page fault))) some puts = absurd puts.answer
+  wrote_answer (Err (errors.Page (reasons.Read file))) some puts = absurd puts.answer
+  wrote_answer (Err (errors.Page reasons.Memory)) some puts = absurd puts.answer
+  wrote_answer (Err errors.NoCommand) some puts = absurd puts
+  wrote_answer (Err errors.SetUnread) some puts = absurd puts
+  wrote_answer (Err errors.SetUnwritten) some puts = absurd puts
+  wrote_answer (Err (errors.BadLine n)) some puts = absurd puts
+  wrote_answer (Err errors.Differs) some puts = absurd puts
 
   -- what holds of the writing, whatever its answer
   abbrev Wrote : Type 0
-  Wrote = KeepsRack r r' × (IsTrue r.tells → r'.told ≡ r.told) × AsksPrefix r.asked r'.asked (outputs_of words.plates)
+  Wrote = KeepsRack r r' × (IsTrue r.tells → r'.reported ≡ r.reported) × AsksPrefix r.asked r'.asked (outputs_of words.plates)
 
   wrote_some : (result : Result (Unit {0}) TrapsetError) → PutsPlates (outputs_of words.plates) planes r r' result → Wrote
-  wrote_some (Ok nothing) puts = (puts.keeps, puts.told, puts.asked)
-  wrote_some (Err (causes.Page refusal)) puts = (puts.keeps, puts.told, puts.asked)
-  wrote_some (Err causes.NoCommand) puts = absurd puts
-  wrote_some (Err causes.SetUnread) puts = absurd puts
-  wrote_some (Err causes.SetUnwritten) puts = absurd puts
-  wrote_some (Err (causes.BadLine n)) puts = absurd puts
-  wrote_some (Err causes.Differs) puts = absurd puts
+  wrote_some (Ok nothing) puts = (puts.keeps, puts.reported, puts.asked)
+  wrote_some (Err (errors.Page error)) puts = (puts.keeps, puts.reported, puts.asked)
+  wrote_some (Err errors.NoCommand) puts = absurd puts
+  wrote_some (Err errors.SetUnread) puts = absurd puts
+  wrote_some (Err errors.SetUnwritten) puts = absurd puts
+  wrote_some (Err (errors.BadLine n)) puts = absurd puts
+  wrote_some (Err errors.Differs) puts = absurd puts
 
   wrote_out : (result : Result (Unit {0}) TrapsetError) → 0 < length words.plates → PutsPlates (outputs_of words.plates) planes r r' result → CarriesOut (Apply words) a b r r' result
   wrote_out result some puts =
       let wrote = wrote_some result puts in
-      record { asked = patches.asked; in_hand = patches.in_hand; rack_keeps = wrote.0; told = wrote.1; created = wrote.2; answer = wrote_answer result some puts }
+      record { asked = patches.asked; in_hand = patches.in_hand; rack_keeps = wrote.0; reported = wrote.1; created = wrote.2; answer = wrote_answer result some puts }
 
 pub patched_out : (words : ApplyWords) (planes : List Plane) (a b : TrayState) (r r' : RackState) (outputs : List (List ℕ)) (result : Result (Unit {0}) TrapsetError) → outputs ≡ outputs_of words.plates → 0 < length words.plates → PatchesPlanes words a b (Ok planes) → PutsPlates outputs planes r r' result → CarriesOut (Apply words) a b r r' result
 patched_out words planes a b r r' outputs result named some patches puts = wrote_out words planes a b r r' patches result some (subst (λ (os : List (List ℕ)). PutsPlates os planes r r' result) named puts)

@@ -1,26 +1,26 @@
 -- The clauses of the top call, by how the command of the words ended.
 use Rattle.std.proofs.Common.{◌≡◌, ◌≢◌, ◌⊎◌, ℕ, ◌≤◌, List, Option, Some, None, Result, Ok, Err, IsTrue, inl, inr, refl, sym, ap, ◌∙◌, subst, arith}
-use Rattle.outside.specs.Causes.{Rose, RoseOnce, Asks, AsksPrefix}
+use Rattle.outside.specs.ErrorCases.{Rose, RoseOnce, Asks, AsksPrefix}
 use Rattle.outside.specs.Tray.{TrayState}
 use Rattle.outside.specs.Rack.{RackState, KeepsRack}
 use Rattle.page_files.specs.Inputs.{one_page}
-use Rattle.page_files.proofs.Told.{breaks_then, line_after}
+use Rattle.page_files.proofs.Reported.{breaks_then, line_after}
 use Rattle.page_files.specs.Files.{Written}
-use Rattle.trapset_cli.specs.declared.cause.TrapsetError.{TrapsetError}
-use Rattle.trapset_cli.specs.declared.cause.TrapsetError.TheVariants as causes
-use Rattle.trapset_cli.specs.Causes.{RefusesCause, cause_line, cause_status}
+use Rattle.trapset_cli.specs.declared.reason.TrapsetError.{TrapsetError}
+use Rattle.trapset_cli.specs.declared.reason.TrapsetError.TheVariants as errors
+use Rattle.trapset_cli.specs.ErrorCases.{RefusesError, error_line, error_status}
 use Rattle.trapset_cli.specs.Clauses.{Mean, Success, Usage, RefusesInput, RefusedInput, IsOfSet, SetFault, ReadFault, WriteFault, LeavesFiles, FaultLine, Completeness}
 use Rattle.trapset_cli.specs.Commands.{written_names}
 use Rattle.trapset_cli.specs.Endings.{Breaks, CarriesOut, Closes, Ends, EndsCommand, IsDone, IsOfInput, IsUnwritten, NotRead, NotWritten, Passes, names_to}
 use Rattle.trapset_cli.specs.Verdicts.{IsVerdict, Refused, Out}
-use Rattle.trapset_cli.proofs.OneVerdict.{one_cause, out_or_refused}
+use Rattle.trapset_cli.proofs.OneVerdict.{one_error, out_or_refused}
 use Rattle.trapset_cli.specs.Words.{ApplyWords, Command, Traps, Apply, command_of}
-use Rattle.refusals.specs.declared.refusal.Refusal.TheVariants as refusals
-use Rattle.refusals.specs.Telling.{KeepsFiles, TellsText, TellsAfterFault}
+use Rattle.common_errors.specs.declared.common.CommonError.TheVariants as reasons
+use Rattle.common_errors.specs.Telling.{KeepsFiles, TellsText, TellsAfterFault}
 use Rattle.page_files.proofs.VerdictLemmas.{PlateLaws}
 
-not_written_then : (command : Command) (t t' : TrayState) (a b c : RackState) (cause : TrapsetError) → KeepsRack a b → NotWritten command t t' a b cause → KeepsFiles b c → NotWritten command t t' a c cause
-not_written_then command t t' a b c cause keeps broke files = record {
+not_written_then : (command : Command) (t t' : TrayState) (a b c : RackState) (reason : TrapsetError) → KeepsRack a b → NotWritten command t t' a b reason → KeepsFiles b c → NotWritten command t t' a c reason
+not_written_then command t t' a b c reason keeps broke files = record {
   calm = broke.calm;
   begun = broke.begun;
   written = broke.written;
@@ -31,135 +31,135 @@ not_written_then command t t' a b c cause keeps broke files = record {
 }
 
 -- the status of a file that was not written
-unwritten_status : (command : Command) (cause : TrapsetError) (place : ℕ) → IsUnwritten command cause place → cause_status cause ≡ 6
-unwritten_status (Traps words) cause place is = ap cause_status is.0
-unwritten_status (Apply words) cause place is = ap cause_status is
+unwritten_status : (command : Command) (reason : TrapsetError) (place : ℕ) → IsUnwritten command reason place → error_status reason ≡ 6
+unwritten_status (Traps words) reason place is = ap error_status is.0
+unwritten_status (Apply words) reason place is = ap error_status is
 
 -- the statuses of input that is refused
-input_status : (command : Command) (cause : TrapsetError) → IsOfInput command cause → (cause_status cause ≡ 3) ⊎ (cause_status cause ≡ 4) ⊎ (cause_status cause ≡ 8)
-input_status (Traps words) cause (inl is) = inl is
-input_status (Traps words) cause (inr is) = inr (inl is)
-input_status (Apply words) cause (inl is) = inr (inl is)
-input_status (Apply words) cause (inr is) = inr (inr is)
+input_status : (command : Command) (reason : TrapsetError) → IsOfInput command reason → (error_status reason ≡ 3) ⊎ (error_status reason ≡ 4) ⊎ (error_status reason ≡ 8)
+input_status (Traps words) reason (inl is) = inl is
+input_status (Traps words) reason (inr is) = inr (inl is)
+input_status (Apply words) reason (inl is) = inr (inl is)
+input_status (Apply words) reason (inr is) = inr (inr is)
 
 -- How a command ended.
 data Ending (command : Command) (t t' : TrayState) (r r' : RackState) (status : ℕ) : Type 0 where
-  done : status ≡ 0 → (IsTrue r.tells → r'.told ≡ r.told) → IsDone command t t' r r' → Ending command t t' r r' status
-  refused : (cause : TrapsetError) → IsOfInput command cause → Passes cause t t' → Asks t.asked t'.asked (names_to command cause) → (IsTrue t.tells → IsVerdict t.file command (Refused cause)) → RefusesCause cause r r' status → Ending command t t' r r' status
-  unread : (cause : TrapsetError) → cause_status cause ≡ 5 → Rose t.faults t'.faults → Asks t.asked t'.asked (names_to command cause) → Breaks command cause t t' → RefusesCause cause r r' status → Ending command t t' r r' status
-  unwritten : (cause : TrapsetError) → cause_status cause ≡ 6 → status ≡ cause_status cause → NotWritten command t t' r r' cause → TellsAfterFault (cause_line cause) r r' → Ending command t t' r r' status
-  no_memory : t'.faults ≡ t.faults → RefusesCause (causes.Page refusals.Memory) r r' status → Ending command t t' r r' status
+  done : status ≡ 0 → (IsTrue r.tells → r'.reported ≡ r.reported) → IsDone command t t' r r' → Ending command t t' r r' status
+  refused : (reason : TrapsetError) → IsOfInput command reason → Passes reason t t' → Asks t.asked t'.asked (names_to command reason) → (IsTrue t.tells → IsVerdict t.file command (Refused reason)) → RefusesError reason r r' status → Ending command t t' r r' status
+  unread : (reason : TrapsetError) → error_status reason ≡ 5 → Rose t.faults t'.faults → Asks t.asked t'.asked (names_to command reason) → Breaks command reason t t' → RefusesError reason r r' status → Ending command t t' r r' status
+  unwritten : (reason : TrapsetError) → error_status reason ≡ 6 → status ≡ error_status reason → NotWritten command t t' r r' reason → TellsAfterFault (error_line reason) r r' → Ending command t t' r r' status
+  no_memory : t'.faults ≡ t.faults → RefusesError (errors.Page reasons.Memory) r r' status → Ending command t t' r r' status
 
 module _ (command : Command) (t t' : TrayState) (r r' : RackState) (status : ℕ) where
-  not_read : (cause : TrapsetError) → NotRead command t t' cause → RefusesCause cause r r' status → Ending command t t' r r' status
-  not_read cause (NotRead.refused input passes asks verdict) closed = refused cause input passes asks verdict closed
-  not_read cause (NotRead.unread is rose asks breaks) closed = unread cause is rose asks breaks closed
-  not_read cause (NotRead.no_memory is calm) closed = no_memory calm (subst (λ (c : TrapsetError). RefusesCause c r r' status) is closed)
+  not_read : (reason : TrapsetError) → NotRead command t t' reason → RefusesError reason r r' status → Ending command t t' r r' status
+  not_read reason (NotRead.refused input passes asks verdict) closed = refused reason input passes asks verdict closed
+  not_read reason (NotRead.unread is rose asks breaks) closed = unread reason is rose asks breaks closed
+  not_read reason (NotRead.no_memory is calm) closed = no_memory calm (subst (λ (c : TrapsetError). RefusesError c r r' status) is closed)
 
-  not_done : (cause : TrapsetError) (between : RackState) → KeepsRack r between → (IsTrue r.tells → between.told ≡ r.told) → (NotRead command t t' cause × (between ≡ r)) ⊎ (NotWritten command t t' r between cause × RoseOnce r.faults between.faults) → RefusesCause cause between r' status → Ending command t t' r r' status
-  not_done cause between keeps told (inl none) closed = not_read cause none.0 (subst (λ (s : RackState). RefusesCause cause s r' status) none.1 closed)
-  not_done cause between keeps told (inr (broke, once)) closed =
-      unwritten cause (unwritten_status command cause broke.place broke.is) closed.status_is (not_written_then command t t' r between r' cause keeps broke closed.files) (line_after (cause_line cause) r between r' told keeps.tells once closed.line)
+  not_done : (reason : TrapsetError) (between : RackState) → KeepsRack r between → (IsTrue r.tells → between.reported ≡ r.reported) → (NotRead command t t' reason × (between ≡ r)) ⊎ (NotWritten command t t' r between reason × RoseOnce r.faults between.faults) → RefusesError reason between r' status → Ending command t t' r r' status
+  not_done reason between keeps reported (inl none) closed = not_read reason none.0 (subst (λ (s : RackState). RefusesError reason s r' status) none.1 closed)
+  not_done reason between keeps reported (inr (broke, once)) closed =
+      unwritten reason (unwritten_status command reason broke.place broke.is) closed.status_is (not_written_then command t t' r between r' reason keeps broke closed.files) (line_after (error_line reason) r between r' reported keeps.tells once closed.line)
 
   ending_of : (result : Result (Unit {0}) TrapsetError) (between : RackState) → CarriesOut command t t' r between result → Closes result between r' status → Ending command t t' r r' status
-  ending_of (Ok nothing) between carried closed = subst (λ (s : RackState). Ending command t t' r s status) (sym closed.0) (done closed.1 carried.told carried.answer)
-  ending_of (Err cause) between carried closed = not_done cause between carried.rack_keeps carried.told carried.answer closed
+  ending_of (Ok nothing) between carried closed = subst (λ (s : RackState). Ending command t t' r s status) (sym closed.0) (done closed.1 carried.reported carried.answer)
+  ending_of (Err reason) between carried closed = not_done reason between carried.rack_keeps carried.reported carried.answer closed
 
   ending : EndsCommand command t t' r r' status → Ending command t t' r r' status
   ending ended = ending_of ended.result ended.between ended.carried ended.closed
 
-  done_by : Ending command t t' r r' status → status ≡ 0 → (IsTrue r.tells → r'.told ≡ r.told) × IsDone command t t' r r'
-  done_by (done is told work) s = (told, work)
-  done_by (refused cause input passes asks verdict closed) s = absurd (elim (input_status command cause input) [ inl a ↦ omega (arith, closed.status_is) | inr (inl a) ↦ omega (arith, closed.status_is) | inr (inr a) ↦ omega (arith, closed.status_is) ])
-  done_by (unread cause is rose asks breaks closed) s = absurd (omega (arith, closed.status_is))
-  done_by (unwritten cause is so broke line) s = absurd (omega arith)
+  done_by : Ending command t t' r r' status → status ≡ 0 → (IsTrue r.tells → r'.reported ≡ r.reported) × IsDone command t t' r r'
+  done_by (done is reported work) s = (reported, work)
+  done_by (refused reason input passes asks verdict closed) s = absurd (elim (input_status command reason input) [ inl a ↦ omega (arith, closed.status_is) | inr (inl a) ↦ omega (arith, closed.status_is) | inr (inr a) ↦ omega (arith, closed.status_is) ])
+  done_by (unread reason is rose asks breaks closed) s = absurd (omega (arith, closed.status_is))
+  done_by (unwritten reason is so broke line) s = absurd (omega arith)
   done_by (no_memory calm closed) s = absurd (omega (arith, closed.status_is))
 
   -- the input is refused, with one of its statuses
-  refused_by : Ending command t t' r r' status → (status ≡ 3) ⊎ (status ≡ 4) ⊎ (status ≡ 8) → (cause : TrapsetError) × RefusesInput command t t' r r' status cause
-  refused_by (refused cause input passes asks verdict closed) s = (cause, record { status_is = closed.status_is; verdict = verdict; begun = asks; count = passes; line = closed.line })
-  refused_by (done is told work) s = absurd (elim s [ inl a ↦ omega arith | inr (inl a) ↦ omega arith | inr (inr a) ↦ omega arith ])
-  refused_by (unread cause is rose asks breaks closed) s = absurd (elim s [ inl a ↦ omega (arith, closed.status_is) | inr (inl a) ↦ omega (arith, closed.status_is) | inr (inr a) ↦ omega (arith, closed.status_is) ])
-  refused_by (unwritten cause is so broke line) s = absurd (elim s [ inl a ↦ omega arith | inr (inl a) ↦ omega arith | inr (inr a) ↦ omega arith ])
+  refused_by : Ending command t t' r r' status → (status ≡ 3) ⊎ (status ≡ 4) ⊎ (status ≡ 8) → (reason : TrapsetError) × RefusesInput command t t' r r' status reason
+  refused_by (refused reason input passes asks verdict closed) s = (reason, record { status_is = closed.status_is; verdict = verdict; begun = asks; count = passes; line = closed.line })
+  refused_by (done is reported work) s = absurd (elim s [ inl a ↦ omega arith | inr (inl a) ↦ omega arith | inr (inr a) ↦ omega arith ])
+  refused_by (unread reason is rose asks breaks closed) s = absurd (elim s [ inl a ↦ omega (arith, closed.status_is) | inr (inl a) ↦ omega (arith, closed.status_is) | inr (inr a) ↦ omega (arith, closed.status_is) ])
+  refused_by (unwritten reason is so broke line) s = absurd (elim s [ inl a ↦ omega arith | inr (inl a) ↦ omega arith | inr (inr a) ↦ omega arith ])
   refused_by (no_memory calm closed) s = absurd (elim s [ inl a ↦ omega (arith, closed.status_is) | inr (inl a) ↦ omega (arith, closed.status_is) | inr (inr a) ↦ omega (arith, closed.status_is) ])
 
-  unread_by : Ending command t t' r r' status → status ≡ 5 → Rose t.faults t'.faults × ((cause : TrapsetError) × (status ≡ cause_status cause) × Asks t.asked t'.asked (names_to command cause) × Breaks command cause t t' × TellsText (cause_line cause) r r')
-  unread_by (unread cause is rose asks breaks closed) s = (rose, (cause, closed.status_is, asks, breaks, closed.line))
-  unread_by (done is told work) s = absurd (omega arith)
-  unread_by (refused cause input passes asks verdict closed) s = absurd (elim (input_status command cause input) [ inl a ↦ omega (arith, closed.status_is) | inr (inl a) ↦ omega (arith, closed.status_is) | inr (inr a) ↦ omega (arith, closed.status_is) ])
-  unread_by (unwritten cause is so broke line) s = absurd (omega arith)
+  unread_by : Ending command t t' r r' status → status ≡ 5 → Rose t.faults t'.faults × ((reason : TrapsetError) × (status ≡ error_status reason) × Asks t.asked t'.asked (names_to command reason) × Breaks command reason t t' × TellsText (error_line reason) r r')
+  unread_by (unread reason is rose asks breaks closed) s = (rose, (reason, closed.status_is, asks, breaks, closed.line))
+  unread_by (done is reported work) s = absurd (omega arith)
+  unread_by (refused reason input passes asks verdict closed) s = absurd (elim (input_status command reason input) [ inl a ↦ omega (arith, closed.status_is) | inr (inl a) ↦ omega (arith, closed.status_is) | inr (inr a) ↦ omega (arith, closed.status_is) ])
+  unread_by (unwritten reason is so broke line) s = absurd (omega arith)
   unread_by (no_memory calm closed) s = absurd (omega (arith, closed.status_is))
 
-  unwritten_by : Ending command t t' r r' status → status ≡ 6 → (cause : TrapsetError) × NotWritten command t t' r r' cause × TellsAfterFault (cause_line cause) r r'
-  unwritten_by (unwritten cause is so broke line) s = (cause, broke, line)
-  unwritten_by (done is told work) s = absurd (omega arith)
-  unwritten_by (refused cause input passes asks verdict closed) s = absurd (elim (input_status command cause input) [ inl a ↦ omega (arith, closed.status_is) | inr (inl a) ↦ omega (arith, closed.status_is) | inr (inr a) ↦ omega (arith, closed.status_is) ])
-  unwritten_by (unread cause is rose asks breaks closed) s = absurd (omega (arith, closed.status_is))
+  unwritten_by : Ending command t t' r r' status → status ≡ 6 → (reason : TrapsetError) × NotWritten command t t' r r' reason × TellsAfterFault (error_line reason) r r'
+  unwritten_by (unwritten reason is so broke line) s = (reason, broke, line)
+  unwritten_by (done is reported work) s = absurd (omega arith)
+  unwritten_by (refused reason input passes asks verdict closed) s = absurd (elim (input_status command reason input) [ inl a ↦ omega (arith, closed.status_is) | inr (inl a) ↦ omega (arith, closed.status_is) | inr (inr a) ↦ omega (arith, closed.status_is) ])
+  unwritten_by (unread reason is rose asks breaks closed) s = absurd (omega (arith, closed.status_is))
   unwritten_by (no_memory calm closed) s = absurd (omega (arith, closed.status_is))
 
   -- neither 6 nor 7 is the status of a refused input
-  not_input : (cause : TrapsetError) → IsOfInput command cause → status ≡ cause_status cause → (status ≡ 6) ⊎ (status ≡ 7) → ⊥
-  not_input cause input is (inl six) = elim (input_status command cause input) [ inl a ↦ omega (arith, is) | inr (inl a) ↦ omega (arith, is) | inr (inr a) ↦ omega (arith, is) ]
-  not_input cause input is (inr seven) = elim (input_status command cause input) [ inl a ↦ omega (arith, is) | inr (inl a) ↦ omega (arith, is) | inr (inr a) ↦ omega (arith, is) ]
+  not_input : (reason : TrapsetError) → IsOfInput command reason → status ≡ error_status reason → (status ≡ 6) ⊎ (status ≡ 7) → ⊥
+  not_input reason input is (inl six) = elim (input_status command reason input) [ inl a ↦ omega (arith, is) | inr (inl a) ↦ omega (arith, is) | inr (inr a) ↦ omega (arith, is) ]
+  not_input reason input is (inr seven) = elim (input_status command reason input) [ inl a ↦ omega (arith, is) | inr (inl a) ↦ omega (arith, is) | inr (inr a) ↦ omega (arith, is) ]
 
   calm_by : Ending command t t' r r' status → (status ≡ 6) ⊎ (status ≡ 7) → t'.faults ≡ t.faults
   calm_by (no_memory calm closed) s = calm
-  calm_by (done is told work) s = work.calm
-  calm_by (refused cause input passes asks verdict closed) s = absurd (not_input cause input closed.status_is s)
-  calm_by (unread cause is rose asks breaks closed) (inl s) = absurd (omega (arith, closed.status_is))
-  calm_by (unread cause is rose asks breaks closed) (inr s) = absurd (omega (arith, closed.status_is))
-  calm_by (unwritten cause is so broke line) s = broke.calm
+  calm_by (done is reported work) s = work.calm
+  calm_by (refused reason input passes asks verdict closed) s = absurd (not_input reason input closed.status_is s)
+  calm_by (unread reason is rose asks breaks closed) (inl s) = absurd (omega (arith, closed.status_is))
+  calm_by (unread reason is rose asks breaks closed) (inr s) = absurd (omega (arith, closed.status_is))
+  calm_by (unwritten reason is so broke line) s = broke.calm
 
   -- a status that is neither 0 nor 6 leaves the files alone, and tells the line of its cause
-  closed_by : Ending command t t' r r' status → status ≢ 0 → status ≢ 6 → (cause : TrapsetError) × RefusesCause cause r r' status
-  closed_by (done is told work) some other = absurd (some is)
-  closed_by (refused cause input passes asks verdict closed) some other = (cause, closed)
-  closed_by (unread cause is rose asks breaks closed) some other = (cause, closed)
-  closed_by (unwritten cause is so broke line) some other = absurd (other (so ∙ is))
-  closed_by (no_memory calm closed) some other = (causes.Page refusals.Memory, closed)
+  closed_by : Ending command t t' r r' status → status ≢ 0 → status ≢ 6 → (reason : TrapsetError) × RefusesError reason r r' status
+  closed_by (done is reported work) some other = absurd (some is)
+  closed_by (refused reason input passes asks verdict closed) some other = (reason, closed)
+  closed_by (unread reason is rose asks breaks closed) some other = (reason, closed)
+  closed_by (unwritten reason is so broke line) some other = absurd (other (so ∙ is))
+  closed_by (no_memory calm closed) some other = (errors.Page reasons.Memory, closed)
 
-  always_by : PlateLaws one_page → (cause : TrapsetError) → Ending command t t' r r' status → IsTrue t.tells → IsVerdict t.file command (Refused cause) → ¬ Rose t.faults t'.faults → (status ≡ cause_status cause) ⊎ (status ≡ 7)
-  always_by laws cause (done is told work) tells judged still = absurd (out_or_refused laws t.file command work.written cause (work.to_write.1 tells) judged)
-  always_by laws cause (refused other input passes asks verdict closed) tells judged still = inl (closed.status_is ∙ ap cause_status (one_cause laws t.file command other cause (verdict tells) judged))
-  always_by laws cause (unread other is rose asks breaks closed) tells judged still = absurd (still rose)
-  always_by laws cause (unwritten other is so broke line) tells judged still = absurd (out_or_refused laws t.file command broke.written cause (broke.to_write.1 tells) judged)
-  always_by laws cause (no_memory calm closed) tells judged still = inr closed.status_is
+  always_by : PlateLaws one_page → (reason : TrapsetError) → Ending command t t' r r' status → IsTrue t.tells → IsVerdict t.file command (Refused reason) → ¬ Rose t.faults t'.faults → (status ≡ error_status reason) ⊎ (status ≡ 7)
+  always_by laws reason (done is reported work) tells judged still = absurd (out_or_refused laws t.file command work.written reason (work.to_write.1 tells) judged)
+  always_by laws reason (refused other input passes asks verdict closed) tells judged still = inl (closed.status_is ∙ ap error_status (one_error laws t.file command other reason (verdict tells) judged))
+  always_by laws reason (unread other is rose asks breaks closed) tells judged still = absurd (still rose)
+  always_by laws reason (unwritten other is so broke line) tells judged still = absurd (out_or_refused laws t.file command broke.written reason (broke.to_write.1 tells) judged)
+  always_by laws reason (no_memory calm closed) tells judged still = inr closed.status_is
 
   complete_by : PlateLaws one_page → (written : List Written) → Ending command t t' r r' status → IsTrue t.tells → IsVerdict t.file command (Out written) → ¬ Rose t.faults t'.faults → ¬ Rose r.faults r'.faults → (status ≡ 0) ⊎ (status ≡ 7)
-  complete_by laws written (done is told work) tells judged still_tray still = inl is
-  complete_by laws written (refused cause input passes asks verdict closed) tells judged still_tray still = absurd (out_or_refused laws t.file command written cause judged (verdict tells))
-  complete_by laws written (unread cause is rose asks breaks closed) tells judged still_tray still = absurd (still_tray rose)
-  complete_by laws written (unwritten cause is so broke line) tells judged still_tray still = absurd (still broke.breaks.cause)
+  complete_by laws written (done is reported work) tells judged still_tray still = inl is
+  complete_by laws written (refused reason input passes asks verdict closed) tells judged still_tray still = absurd (out_or_refused laws t.file command written reason judged (verdict tells))
+  complete_by laws written (unread reason is rose asks breaks closed) tells judged still_tray still = absurd (still_tray rose)
+  complete_by laws written (unwritten reason is so broke line) tells judged still_tray still = absurd (still broke.breaks.reason)
   complete_by laws written (no_memory calm closed) tells judged still_tray still = inr closed.status_is
 
   -- no command ends with the status of words that are none
   status_by : Ending command t t' r r' status → (status ≡ 0) ⊎ ((3 ≤ status) × (status ≤ 8))
-  status_by (done is told work) = inl is
-  status_by (refused cause input passes asks verdict closed) = inr (elim (input_status command cause input) [ inl a ↦ (omega (arith, closed.status_is), omega (arith, closed.status_is)) | inr (inl a) ↦ (omega (arith, closed.status_is), omega (arith, closed.status_is)) | inr (inr a) ↦ (omega (arith, closed.status_is), omega (arith, closed.status_is)) ])
-  status_by (unread cause is rose asks breaks closed) = inr (omega (arith, closed.status_is), omega (arith, closed.status_is))
-  status_by (unwritten cause is so broke line) = inr (omega arith, omega arith)
+  status_by (done is reported work) = inl is
+  status_by (refused reason input passes asks verdict closed) = inr (elim (input_status command reason input) [ inl a ↦ (omega (arith, closed.status_is), omega (arith, closed.status_is)) | inr (inl a) ↦ (omega (arith, closed.status_is), omega (arith, closed.status_is)) | inr (inr a) ↦ (omega (arith, closed.status_is), omega (arith, closed.status_is)) ])
+  status_by (unread reason is rose asks breaks closed) = inr (omega (arith, closed.status_is), omega (arith, closed.status_is))
+  status_by (unwritten reason is so broke line) = inr (omega arith, omega arith)
   status_by (no_memory calm closed) = inr (omega (arith, closed.status_is), omega (arith, closed.status_is))
 
   -- the names handed to `create`, after the line was told
   created_by : (result : Result (Unit {0}) TrapsetError) (between : RackState) → CarriesOut command t t' r between result → Closes result between r' status → AsksPrefix r.asked r'.asked (written_names command)
   created_by (Ok nothing) between carried closed = subst (λ (s : RackState). AsksPrefix r.asked s.asked (written_names command)) (sym closed.0) carried.created
-  created_by (Err cause) between carried closed = subst (λ (names : Option (List (List ℕ))). AsksPrefix r.asked names (written_names command)) (sym closed.files.asked) carried.created
+  created_by (Err reason) between carried closed = subst (λ (names : Option (List (List ℕ))). AsksPrefix r.asked names (written_names command)) (sym closed.files.asked) carried.created
 
 -- a cause of status 8 is one of the set
-of_set : (cause : TrapsetError) → cause_status cause ≡ 8 → IsOfSet cause
-of_set (causes.BadLine n) is = inl (n, refl)
-of_set causes.Differs is = inr refl
-of_set causes.NoCommand is = absurd (omega arith)
-of_set causes.SetUnread is = absurd (omega arith)
-of_set causes.SetUnwritten is = absurd (omega arith)
-of_set (causes.Page refusals.Usage) is = absurd (omega arith)
-of_set (causes.Page (refusals.Job fault)) is = absurd (omega arith)
-of_set (causes.Page (refusals.NoDetails k)) is = absurd (omega arith)
-of_set (causes.Page (refusals.Plate k fault)) is = absurd (omega arith)
-of_set (causes.Page (refusals.Page fault)) is = absurd (omega arith)
-of_set (causes.Page (refusals.Read file)) is = absurd (omega arith)
-of_set (causes.Page (refusals.Write file)) is = absurd (omega arith)
-of_set (causes.Page refusals.Memory) is = absurd (omega arith)
+of_set : (reason : TrapsetError) → error_status reason ≡ 8 → IsOfSet reason
+of_set (errors.BadLine n) is = inl (n, refl)
+of_set errors.Differs is = inr refl
+of_set errors.NoCommand is = absurd (omega arith)
+of_set errors.SetUnread is = absurd (omega arith)
+of_set errors.SetUnwritten is = absurd (omega arith)
+of_set (errors.Page reasons.Usage) is = absurd (omega arith)
+of_set (errors.Page (reasons.Job fault)) is = absurd (omega arith)
+of_set (errors.Page (reasons.NoDetails k)) is = absurd (omega arith)
+of_set (errors.Page (reasons.Plate k fault)) is = absurd (omega arith)
+of_set (errors.Page (reasons.Page fault)) is = absurd (omega arith)
+of_set (errors.Page (reasons.Read file)) is = absurd (omega arith)
+of_set (errors.Page (reasons.Write file)) is = absurd (omega arith)
+of_set (errors.Page reasons.Memory) is = absurd (omega arith)
 
 module _ (words : List (List ℕ)) (t t' : TrayState) (r r' : RackState) (status : ℕ) where
   same_command : (one two : Command) → Mean words one → Mean words two → one ≡ two
@@ -175,7 +175,7 @@ module _ (words : List (List ℕ)) (t t' : TrayState) (r r' : RackState) (status
   command_ending : (command : Command) → Mean words command → Ends words t t' r r' status → Ending command t t' r r' status
   command_ending command means ended = ending command t t' r r' status (command_ended command means ended)
 
-  done_of : Ends words t t' r r' status → status ≡ 0 → (command : Command) × (IsTrue r.tells → r'.told ≡ r.told) × IsDone command t t' r r'
+  done_of : Ends words t t' r r' status → status ≡ 0 → (command : Command) × (IsTrue r.tells → r'.reported ≡ r.reported) × IsDone command t t' r r'
   done_of (Ends.no_command none same refuses) s = absurd (omega (arith, refuses.status_is))
   done_of (Ends.command command also ended) s = (let by = done_by command t t' r r' status (ending command t t' r r' status ended) s in (command, by.0, by.1))
 
@@ -196,7 +196,7 @@ module _ (words : List (List ℕ)) (t t' : TrayState) (r r' : RackState) (status
   usage_only (Ends.no_command none same refuses) s = none
   usage_only (Ends.command command also ended) s = elim (status_by command t t' r r' status (ending command t t' r r' status ended)) [ inl is ↦ absurd (omega arith) | inr within ↦ absurd (omega (arith, within.0)) ]
 
-  usage_always : Ends words t t' r r' status → command_of words ≡ None → RefusesCause causes.NoCommand r r' status × (t'.asked ≡ t.asked)
+  usage_always : Ends words t t' r r' status → command_of words ≡ None → RefusesError errors.NoCommand r r' status × (t'.asked ≡ t.asked)
   usage_always (Ends.no_command none same refuses) nothing = (refuses, ap (λ (u : TrayState). u.asked) same)
   usage_always (Ends.command command also ended) nothing = absurd (no_meaning command also nothing)
 
@@ -212,31 +212,31 @@ module _ (words : List (List ℕ)) (t t' : TrayState) (r r' : RackState) (status
   pub refused_input : PlateLaws one_page → Ends words t t' r r' status → RefusedInput words t t' r r' status
   refused_input laws ended = record {
     only = λ command means s. refused_by command t t' r r' status (command_ending command means ended) (elim s [ inl a ↦ inl a | inr a ↦ inr (inl a) ]);
-    always = λ command cause means tells judged still. always_by command t t' r r' status laws cause (command_ending command means ended) tells judged still;
+    always = λ command reason means tells judged still. always_by command t t' r r' status laws reason (command_ending command means ended) tells judged still;
   }
 
   -- a command that ends with status 8 is one of `apply`
-  set_by : (command : Command) → Mean words command → Ending command t t' r r' status → status ≡ 8 → (apply : ApplyWords) × Mean words (Apply apply) × ((cause : TrapsetError) × IsOfSet cause × RefusesInput (Apply apply) t t' r r' status cause)
+  set_by : (command : Command) → Mean words command → Ending command t t' r r' status → status ≡ 8 → (apply : ApplyWords) × Mean words (Apply apply) × ((reason : TrapsetError) × IsOfSet reason × RefusesInput (Apply apply) t t' r r' status reason)
   set_by (Apply apply) means ended s =
       let by = refused_by (Apply apply) t t' r r' status ended (inr (inr s)) in
       (apply, means, (by.0, of_set by.0 (sym by.1.status_is ∙ s), by.1))
-  set_by (Traps traps) means (done is told work) s = absurd (omega arith)
-  set_by (Traps traps) means (refused cause (inl input) passes asks verdict closed) s = absurd (omega (arith, closed.status_is))
-  set_by (Traps traps) means (refused cause (inr input) passes asks verdict closed) s = absurd (omega (arith, closed.status_is))
-  set_by (Traps traps) means (unread cause is rose asks breaks closed) s = absurd (omega (arith, closed.status_is))
-  set_by (Traps traps) means (unwritten cause is so broke line) s = absurd (omega arith)
+  set_by (Traps traps) means (done is reported work) s = absurd (omega arith)
+  set_by (Traps traps) means (refused reason (inl input) passes asks verdict closed) s = absurd (omega (arith, closed.status_is))
+  set_by (Traps traps) means (refused reason (inr input) passes asks verdict closed) s = absurd (omega (arith, closed.status_is))
+  set_by (Traps traps) means (unread reason is rose asks breaks closed) s = absurd (omega (arith, closed.status_is))
+  set_by (Traps traps) means (unwritten reason is so broke line) s = absurd (omega arith)
   set_by (Traps traps) means (no_memory calm closed) s = absurd (omega (arith, closed.status_is))
 
-  set_of : Ends words t t' r r' status → status ≡ 8 → (apply : ApplyWords) × Mean words (Apply apply) × ((cause : TrapsetError) × IsOfSet cause × RefusesInput (Apply apply) t t' r r' status cause)
+  set_of : Ends words t t' r r' status → status ≡ 8 → (apply : ApplyWords) × Mean words (Apply apply) × ((reason : TrapsetError) × IsOfSet reason × RefusesInput (Apply apply) t t' r r' status reason)
   set_of (Ends.no_command none same refuses) s = absurd (omega (arith, refuses.status_is))
   set_of (Ends.command command also ended) s = set_by command also (ending command t t' r r' status ended) s
 
   pub set_fault : Ends words t t' r r' status → SetFault words t t' r r' status
   set_fault ended s = set_of ended s
 
-  read_cause : Ends words t t' r r' status → status ≡ 5 → Rose t.faults t'.faults
-  read_cause (Ends.no_command none same refuses) s = absurd (omega (arith, refuses.status_is))
-  read_cause (Ends.command command also ended) s = (unread_by command t t' r r' status (ending command t t' r r' status ended) s).0
+  read_error : Ends words t t' r r' status → status ≡ 5 → Rose t.faults t'.faults
+  read_error (Ends.no_command none same refuses) s = absurd (omega (arith, refuses.status_is))
+  read_error (Ends.command command also ended) s = (unread_by command t t' r r' status (ending command t t' r r' status ended) s).0
 
   all_calm : Ends words t t' r r' status → (status ≡ 6) ⊎ (status ≡ 7) → t'.faults ≡ t.faults
   all_calm (Ends.no_command none same refuses) s = ap (λ (u : TrayState). u.faults) same
@@ -244,20 +244,20 @@ module _ (words : List (List ℕ)) (t t' : TrayState) (r r' : RackState) (status
 
   pub read_fault : Ends words t t' r r' status → ReadFault words t t' r r' status
   read_fault ended = record {
-    cause = read_cause ended;
+    reason = read_error ended;
     breaks = λ command means s. (unread_by command t t' r r' status (command_ending command means ended) s).1;
     asked = λ command means. (command_ended command means ended).carried.asked;
     in_hand = λ command means. (command_ended command means ended).carried.in_hand;
     calm = all_calm ended;
   }
 
-  write_cause : Ends words t t' r r' status → status ≡ 6 → Rose r.faults r'.faults
-  write_cause (Ends.no_command none same refuses) s = absurd (omega (arith, refuses.status_is))
-  write_cause (Ends.command command also ended) s = (unwritten_by command t t' r r' status (ending command t t' r r' status ended) s).1.breaks.cause
+  write_error : Ends words t t' r r' status → status ≡ 6 → Rose r.faults r'.faults
+  write_error (Ends.no_command none same refuses) s = absurd (omega (arith, refuses.status_is))
+  write_error (Ends.command command also ended) s = (unwritten_by command t t' r r' status (ending command t t' r r' status ended) s).1.breaks.reason
 
   pub write_fault : Ends words t t' r r' status → WriteFault words t t' r r' status
   write_fault ended = record {
-    cause = write_cause ended;
+    reason = write_error ended;
     begun = λ command means s. (unwritten_by command t t' r r' status (command_ending command means ended) s).1.begun;
     breaks = λ command means s.
         (let by = unwritten_by command t t' r r' status (command_ending command means ended) s in
@@ -267,8 +267,8 @@ module _ (words : List (List ℕ)) (t t' : TrayState) (r r' : RackState) (status
         created_by command t t' r r' status ends.result ends.between ends.carried ends.closed);
   }
 
-  closed_of : Ends words t t' r r' status → status ≢ 0 → status ≢ 6 → (cause : TrapsetError) × RefusesCause cause r r' status
-  closed_of (Ends.no_command none same refuses) some other = (causes.NoCommand, refuses)
+  closed_of : Ends words t t' r r' status → status ≢ 0 → status ≢ 6 → (reason : TrapsetError) × RefusesError reason r r' status
+  closed_of (Ends.no_command none same refuses) some other = (errors.NoCommand, refuses)
   closed_of (Ends.command command also ended) some other = closed_by command t t' r r' status (ending command t t' r r' status ended) some other
 
   pub leaves_files : Ends words t t' r r' status → LeavesFiles r r' status

@@ -12,13 +12,13 @@ use Rattle.pgm_plates.specs.declared.plate.PlateFault.{PlateFault}
 use Rattle.pgm_plates.specs.Faults.{IsFault}
 use Rattle.pgm_plates.specs.Planes.{plane_of}
 use Rattle.pgm_plates.specs.Plates.{IsPlateFile}
-use Rattle.trapset_cli.specs.declared.cause.TrapsetError.{TrapsetError}
-use Rattle.trapset_cli.specs.declared.cause.TrapsetError.TheVariants as causes
+use Rattle.trapset_cli.specs.declared.reason.TrapsetError.{TrapsetError}
+use Rattle.trapset_cli.specs.declared.reason.TrapsetError.TheVariants as errors
 use Rattle.trapset_cli.specs.Commands.{inputs_of, sources_of}
 use Rattle.trapset_cli.specs.Verdicts.{ArePlanes, Gives, HasBadLine, IsApply, IsTraps, IsVerdict, OnPlanes, PlateRefused, Refused, Out, no_files}
 use Rattle.trapset_cli.specs.Words.{TrapsWords, ApplyWords, Command, Traps, Apply}
-use Rattle.refusals.specs.declared.refusal.Refusal.{Refusal}
-use Rattle.refusals.specs.declared.refusal.Refusal.TheVariants as refusals
+use Rattle.common_errors.specs.declared.common.CommonError.{CommonError}
+use Rattle.common_errors.specs.declared.common.CommonError.TheVariants as reasons
 use Rattle.trap_set.specs.Applying.{Differ, Fits}
 use Rattle.trap_set.specs.Lines.{BeginsSome, IsBadLine, lines_of}
 use Rattle.trap_set.specs.Runs.{Run}
@@ -60,8 +60,8 @@ fits_or_differs bytes head runs planes file fits d =
     d.others (subst (λ (o : SetHead). Fits o planes) same fits)
 
 -- a file has one list of bytes
-held_both : (files : List ℕ → Option (List ℕ)) (name : List ℕ) (F G : List ℕ → Type 0) → Holds files name F → Holds files name G → (bytes : List ℕ) × F bytes × G bytes
-held_both files name F G one two =
+stored_both : (files : List ℕ → Option (List ℕ)) (name : List ℕ) (F G : List ℕ → Type 0) → Holds files name F → Holds files name G → (bytes : List ℕ) × F bytes × G bytes
+stored_both files name F G one two =
     let same : two.0 ≡ one.0 = same_Some two.0 one.0 (sym two.1 ∙ one.1) in
     (one.0, one.2, subst G same two.2)
 
@@ -69,12 +69,12 @@ module _ (laws : PlateLaws one_page) (files : List ℕ → Option (List ℕ)) wh
   -- plates that were read have no fault, and are one list
   read_or_fault : (names : List (List ℕ)) (k n : ℕ) (plates : List PlateRead) (fault : PlateFault) → k < n → AreRead one_page files names n plates → Holds files (name_at names k) (λ bytes. IsFault bytes fault) → ⊥
   read_or_fault names k n plates fault within read broken =
-      let both = held_both files (name_at names k) (λ bytes. IsPlateFile bytes (plate_at plates k)) (λ bytes. IsFault bytes fault) (read.each k within) broken in
+      let both = stored_both files (name_at names k) (λ bytes. IsPlateFile bytes (plate_at plates k)) (λ bytes. IsFault bytes fault) (read.each k within) broken in
       laws.not_both both.0 (plate_at plates k) fault both.1 both.2
 
   same_at : (names : List (List ℕ)) (n : ℕ) (p q : List PlateRead) → AreRead one_page files names n p → AreRead one_page files names n q → (k : ℕ) → k < n → plate_at p k ≡ plate_at q k
   same_at names n p q a b k within =
-      let both = held_both files (name_at names k) (λ bytes. IsPlateFile bytes (plate_at p k)) (λ bytes. IsPlateFile bytes (plate_at q k)) (a.each k within) (b.each k within) in
+      let both = stored_both files (name_at names k) (λ bytes. IsPlateFile bytes (plate_at p k)) (λ bytes. IsPlateFile bytes (plate_at q k)) (a.each k within) (b.each k within) in
       laws.one_plate both.0 (plate_at p k) (plate_at q k) both.1 both.2
 
   one_list : (names : List (List ℕ)) (n : ℕ) (p q : List PlateRead) → AreRead one_page files names n p → AreRead one_page files names n q → p ≡ q
@@ -93,45 +93,45 @@ module _ (laws : PlateLaws one_page) (files : List ℕ → Option (List ℕ)) wh
     | inr more ↦ elim (cases_lt k j) [ inl less ↦ absurd (read_or_fault names k j a.plates g less a.before b.broken) | inr other ↦ omega arith ]
   ]
 
-  one_plate_fault : (names : List (List ℕ)) (j k : ℕ) (f g : PlateFault) → PlateRefused files names j f → PlateRefused files names k g → ◌≡◌ {A = TrapsetError} (causes.Page (refusals.Plate j f)) (causes.Page (refusals.Plate k g))
+  one_plate_fault : (names : List (List ℕ)) (j k : ℕ) (f g : PlateFault) → PlateRefused files names j f → PlateRefused files names k g → ◌≡◌ {A = TrapsetError} (errors.Page (reasons.Plate j f)) (errors.Page (reasons.Plate k g))
   one_plate_fault names j k f g a b =
       let place : j ≡ k = same_place names j k f g a b in
       let there = subst (λ (n : ℕ). Holds files (name_at names n) (λ bytes. IsFault bytes f)) place a.broken in
-      let both = held_both files (name_at names k) (λ bytes. IsFault bytes f) (λ bytes. IsFault bytes g) there b.broken in
+      let both = stored_both files (name_at names k) (λ bytes. IsFault bytes f) (λ bytes. IsFault bytes g) there b.broken in
       let fault : f ≡ g = laws.one_fault both.0 f g both.1 both.2 in
-      ap (λ (n : ℕ). causes.Page (refusals.Plate n f)) place ∙ ap (λ (h : PlateFault). causes.Page (refusals.Plate k h)) fault
+      ap (λ (n : ℕ). errors.Page (reasons.Plate n f)) place ∙ ap (λ (h : PlateFault). errors.Page (reasons.Plate k h)) fault
 
   module _ (words : ApplyWords) where
     -- both facts, of the same bytes and planes
     both_on : (F G : List ℕ → List Plane → Type 0) → OnPlanes files words F → OnPlanes files words G → (bytes : List ℕ) × (planes : List Plane) × F bytes planes × G bytes planes
     both_on F G one two =
         let same : two.planes ≡ one.planes = one_planes (inputs_of words) two.planes one.planes two.read one.read in
-        let both = held_both files words.set (λ bytes. F bytes one.planes) (λ bytes. G bytes one.planes) one.set (subst (λ (ps : List Plane). Holds files words.set (λ bytes. G bytes ps)) same two.set) in
+        let both = stored_both files words.set (λ bytes. F bytes one.planes) (λ bytes. G bytes one.planes) one.set (subst (λ (ps : List Plane). Holds files words.set (λ bytes. G bytes ps)) same two.set) in
         (both.0, one.planes, both.1, both.2)
 
     read_or_refused : (F : List ℕ → List Plane → Type 0) (k : ℕ) (fault : PlateFault) → OnPlanes files words F → PlateRefused files (inputs_of words) k fault → ⊥
     read_or_refused F k fault on refused = read_or_fault (inputs_of words) k (length (inputs_of words)) on.read.plates fault refused.known on.read.read refused.broken
 
     -- a cause is a plate's fault, a bad line, or a set for other planes
-    data View (cause : TrapsetError) : Type 0 where
-      of_plate : (k : ℕ) (fault : PlateFault) → cause ≡ causes.Page (refusals.Plate k fault) → PlateRefused files (inputs_of words) k fault → View cause
-      of_line : (n : ℕ) → cause ≡ causes.BadLine n → OnPlanes files words (HasBadLine n) → View cause
-      of_others : cause ≡ causes.Differs → OnPlanes files words Differ → View cause
+    data View (reason : TrapsetError) : Type 0 where
+      of_plate : (k : ℕ) (fault : PlateFault) → reason ≡ errors.Page (reasons.Plate k fault) → PlateRefused files (inputs_of words) k fault → View reason
+      of_line : (n : ℕ) → reason ≡ errors.BadLine n → OnPlanes files words (HasBadLine n) → View reason
+      of_others : reason ≡ errors.Differs → OnPlanes files words Differ → View reason
 
-    view : (cause : TrapsetError) → IsApply files words (Refused cause) → View cause
-    view (causes.Page (refusals.Plate k fault)) is = of_plate k fault refl is
-    view (causes.BadLine n) is = of_line n refl is
-    view causes.Differs is = of_others refl is
-    view (causes.Page refusals.Usage) is = absurd is
-    view (causes.Page (refusals.Job fault)) is = absurd is
-    view (causes.Page (refusals.NoDetails k)) is = absurd is
-    view (causes.Page (refusals.Page fault)) is = absurd is
-    view (causes.Page (refusals.Read file)) is = absurd is
-    view (causes.Page (refusals.Write file)) is = absurd is
-    view (causes.Page refusals.Memory) is = absurd is
-    view causes.NoCommand is = absurd is
-    view causes.SetUnread is = absurd is
-    view causes.SetUnwritten is = absurd is
+    view : (reason : TrapsetError) → IsApply files words (Refused reason) → View reason
+    view (errors.Page (reasons.Plate k fault)) is = of_plate k fault refl is
+    view (errors.BadLine n) is = of_line n refl is
+    view errors.Differs is = of_others refl is
+    view (errors.Page reasons.Usage) is = absurd is
+    view (errors.Page (reasons.Job fault)) is = absurd is
+    view (errors.Page (reasons.NoDetails k)) is = absurd is
+    view (errors.Page (reasons.Page fault)) is = absurd is
+    view (errors.Page (reasons.Read file)) is = absurd is
+    view (errors.Page (reasons.Write file)) is = absurd is
+    view (errors.Page reasons.Memory) is = absurd is
+    view errors.NoCommand is = absurd is
+    view errors.SetUnread is = absurd is
+    view errors.SetUnwritten is = absurd is
 
     one_line : (m n : ℕ) → OnPlanes files words (HasBadLine m) → OnPlanes files words (HasBadLine n) → m ≡ n
     one_line m n a b =
@@ -144,52 +144,52 @@ module _ (laws : PlateLaws one_page) (files : List ℕ → Option (List ℕ)) wh
     line_or_others : (n : ℕ) → OnPlanes files words (HasBadLine n) → OnPlanes files words Differ → ⊥
     line_or_others n a b = (let both = both_on (HasBadLine n) Differ a b in both.2.same both.3)
 
-    same_cause : (one two : TrapsetError) → View one → View two → one ≡ two
-    same_cause one two (of_plate j f is a) (of_plate k g also b) = is ∙ one_plate_fault (inputs_of words) j k f g a b ∙ sym also
-    same_cause one two (of_plate j f is a) (of_line n also b) = absurd (read_or_refused (HasBadLine n) j f b a)
-    same_cause one two (of_plate j f is a) (of_others also b) = absurd (read_or_refused Differ j f b a)
-    same_cause one two (of_line m is a) (of_plate k g also b) = absurd (read_or_refused (HasBadLine m) k g a b)
-    same_cause one two (of_line m is a) (of_line n also b) = is ∙ ap (λ (k : ℕ). causes.BadLine k) (one_line m n a b) ∙ sym also
-    same_cause one two (of_line m is a) (of_others also b) = absurd (line_or_others m a b)
-    same_cause one two (of_others is a) (of_plate k g also b) = absurd (read_or_refused Differ k g a b)
-    same_cause one two (of_others is a) (of_line n also b) = absurd (line_or_others n b a)
-    same_cause one two (of_others is a) (of_others also b) = is ∙ sym also
+    same_error : (one two : TrapsetError) → View one → View two → one ≡ two
+    same_error one two (of_plate j f is a) (of_plate k g also b) = is ∙ one_plate_fault (inputs_of words) j k f g a b ∙ sym also
+    same_error one two (of_plate j f is a) (of_line n also b) = absurd (read_or_refused (HasBadLine n) j f b a)
+    same_error one two (of_plate j f is a) (of_others also b) = absurd (read_or_refused Differ j f b a)
+    same_error one two (of_line m is a) (of_plate k g also b) = absurd (read_or_refused (HasBadLine m) k g a b)
+    same_error one two (of_line m is a) (of_line n also b) = is ∙ ap (λ (k : ℕ). errors.BadLine k) (one_line m n a b) ∙ sym also
+    same_error one two (of_line m is a) (of_others also b) = absurd (line_or_others m a b)
+    same_error one two (of_others is a) (of_plate k g also b) = absurd (read_or_refused Differ k g a b)
+    same_error one two (of_others is a) (of_line n also b) = absurd (line_or_others n b a)
+    same_error one two (of_others is a) (of_others also b) = is ∙ sym also
 
-    given_or_refused : (new : List Plane) (cause : TrapsetError) → OnPlanes files words (Gives new) → View cause → ⊥
-    given_or_refused new cause on (of_plate k fault is a) = read_or_refused (Gives new) k fault on a
-    given_or_refused new cause on (of_line n is a) = (let both = both_on (Gives new) (HasBadLine n) on a in both.3.bad.no_set both.2.head both.2.runs both.2.is_file)
-    given_or_refused new cause on (of_others is a) = (let both = both_on (Gives new) Differ on a in fits_or_differs both.0 both.2.head both.2.runs both.1 both.2.is_file both.2.fits both.3)
+    given_or_refused : (new : List Plane) (reason : TrapsetError) → OnPlanes files words (Gives new) → View reason → ⊥
+    given_or_refused new reason on (of_plate k fault is a) = read_or_refused (Gives new) k fault on a
+    given_or_refused new reason on (of_line n is a) = (let both = both_on (Gives new) (HasBadLine n) on a in both.3.bad.no_set both.2.head both.2.runs both.2.is_file)
+    given_or_refused new reason on (of_others is a) = (let both = both_on (Gives new) Differ on a in fits_or_differs both.0 both.2.head both.2.runs both.1 both.2.is_file both.2.fits both.3)
 
   module _ (words : TrapsWords) where
-    -- a cause is a refusal of the page
-    page_of : (cause : TrapsetError) → IsTraps files words (Refused cause) → (refusal : Refusal) × (cause ≡ causes.Page refusal) × IsPageVerdict one_page files (sources_of words) no_files (page_refused refusal)
-    page_of (causes.Page refusal) is = (refusal, refl, is)
-    page_of causes.NoCommand is = absurd is
-    page_of causes.SetUnread is = absurd is
-    page_of causes.SetUnwritten is = absurd is
-    page_of (causes.BadLine n) is = absurd is
-    page_of causes.Differs is = absurd is
+    -- a cause is a error of the page
+    page_of : (reason : TrapsetError) → IsTraps files words (Refused reason) → (error : CommonError) × (reason ≡ errors.Page error) × IsPageVerdict one_page files (sources_of words) no_files (page_refused error)
+    page_of (errors.Page error) is = (error, refl, is)
+    page_of errors.NoCommand is = absurd is
+    page_of errors.SetUnread is = absurd is
+    page_of errors.SetUnwritten is = absurd is
+    page_of (errors.BadLine n) is = absurd is
+    page_of errors.Differs is = absurd is
 
-    same_page_cause : (one two : TrapsetError) → IsTraps files words (Refused one) → IsTraps files words (Refused two) → one ≡ two
-    same_page_cause one two a b =
+    same_page_error : (one two : TrapsetError) → IsTraps files words (Refused one) → IsTraps files words (Refused two) → one ≡ two
+    same_page_error one two a b =
         let x = page_of one a in
         let y = page_of two b in
         let same : ◌≡◌ {A = PageVerdict} (page_refused x.0) (page_refused y.0) = one_verdict one_page laws files (sources_of words) no_files (page_refused x.0) (page_refused y.0) x.2 y.2 in
-        let refusals_same : x.0 ≡ y.0 = cc in
-        x.1 ∙ ap (λ (r : Refusal). causes.Page r) refusals_same ∙ sym y.1
+        let errors_same : x.0 ≡ y.0 = cc in
+        x.1 ∙ ap (λ (r : CommonError). errors.Page r) errors_same ∙ sym y.1
 
-    made_or_refused : (page : PageParts) (cause : TrapsetError) → Makes one_page files (sources_of words) (Ok page) → IsTraps files words (Refused cause) → ⊥
-    made_or_refused page cause made is =
-        let x = page_of cause is in
+    made_or_refused : (page : PageParts) (reason : TrapsetError) → Makes one_page files (sources_of words) (Ok page) → IsTraps files words (Refused reason) → ⊥
+    made_or_refused page reason made is =
+        let x = page_of reason is in
         let same : ◌≡◌ {A = PageVerdict} (page_out (outcome no_files page)) (page_refused x.0) = one_verdict one_page laws files (sources_of words) no_files (page_out (outcome no_files page)) (page_refused x.0) (page, made, refl) x.2 in
         absurd cc
 
   -- where files are to be written, the input is not refused
-  pub out_or_refused : (command : Command) (written : List Written) (cause : TrapsetError) → IsVerdict files command (Out written) → IsVerdict files command (Refused cause) → ⊥
-  out_or_refused (Traps words) written cause out is = made_or_refused words out.0 cause out.1 is
-  out_or_refused (Apply words) written cause out is = given_or_refused words out.0 cause out.1 (view words cause is)
+  pub out_or_refused : (command : Command) (written : List Written) (reason : TrapsetError) → IsVerdict files command (Out written) → IsVerdict files command (Refused reason) → ⊥
+  out_or_refused (Traps words) written reason out is = made_or_refused words out.0 reason out.1 is
+  out_or_refused (Apply words) written reason out is = given_or_refused words out.0 reason out.1 (view words reason is)
 
   -- the input is refused for one cause
-  pub one_cause : (command : Command) (one two : TrapsetError) → IsVerdict files command (Refused one) → IsVerdict files command (Refused two) → one ≡ two
-  one_cause (Traps words) one two a b = same_page_cause words one two a b
-  one_cause (Apply words) one two a b = same_cause words one two (view words one a) (view words two b)
+  pub one_error : (command : Command) (one two : TrapsetError) → IsVerdict files command (Refused one) → IsVerdict files command (Refused two) → one ≡ two
+  one_error (Traps words) one two a b = same_page_error words one two a b
+  one_error (Apply words) one two a b = same_error words one two (view words one a) (view words two b)

@@ -12,14 +12,14 @@ use Rattle.page_model.specs.Conditions.{IsPage}
 use Rattle.page_model.specs.Tints.{trapped_planes}
 use Rattle.page_files.specs.Writing.{BreaksAt, WritesAll}
 use Rattle.page_files.proofs.Steps.{breaks_next, wrote_more, wrote_none}
-use Rattle.trapset_cli.specs.declared.cause.TrapsetError.{TrapsetError}
-use Rattle.trapset_cli.specs.declared.cause.TrapsetError.TheVariants as causes
+use Rattle.trapset_cli.specs.declared.reason.TrapsetError.{TrapsetError}
+use Rattle.trapset_cli.specs.declared.reason.TrapsetError.TheVariants as errors
 use Rattle.trapset_cli.specs.Commands.{sources_of}
 use Rattle.trapset_cli.specs.Endings.{Answers, CarriesOut, NotRead}
 use Rattle.trapset_cli.specs.Putting.{AnswersPut, PutsSet}
 use Rattle.trapset_cli.specs.Verdicts.{set_files}
 use Rattle.trapset_cli.specs.Words.{TrapsWords, Traps}
-use Rattle.refusals.specs.declared.refusal.Refusal.TheVariants as refusals
+use Rattle.common_errors.specs.declared.common.CommonError.TheVariants as reasons
 use Rattle.trap_set.specs.SetText.{set_text}
 
 pub unchanged : (a : RackState) → KeepsRack a a
@@ -40,26 +40,26 @@ module _ (name : List ℕ) (page : PageParts) (old new : List Plane) (a b : Rack
   set_put {T} {E} x wrote = record {
     valid = valid;
     keeps = wrote.keeps;
-    told = wrote.told;
+    reported = wrote.reported;
     asked = asks_all a.asked b.asked (name ∷ []) wrote.asked;
     answer = set_wrote {T = T} {E = E} name (set_text page.planes (trapped_planes page)) a b x (subst (λ (bytes : List ℕ). WritesFile {T = T} {E = E} name bytes a b (Ok x)) same_text wrote);
   }
 
-  pub set_not_put : {T E : Type 0} (e : E) → WritesFile {T = T} {E = E} name (set_text old new) a b (Err e) → PutsSet name page a b (Err causes.SetUnwritten)
+  pub set_not_put : {T E : Type 0} (e : E) → WritesFile {T = T} {E = E} name (set_text old new) a b (Err e) → PutsSet name page a b (Err errors.SetUnwritten)
   set_not_put {T} {E} e wrote = record {
     valid = valid;
     keeps = wrote.keeps;
-    told = wrote.told;
+    reported = wrote.reported;
     asked = asks_all a.asked b.asked (name ∷ []) wrote.asked;
     answer = (set_broke {T = T} {E = E} name (set_text page.planes (trapped_planes page)) a b e (subst (λ (bytes : List ℕ). WritesFile {T = T} {E = E} name bytes a b (Err e)) same_text wrote), wrote.once);
   }
 
 -- There was no memory to trap the page.
-pub not_trapped : (name : List ℕ) (page : PageParts) (a : RackState) → IsPage page → PutsSet name page a a (Err (causes.Page refusals.Memory))
+pub not_trapped : (name : List ℕ) (page : PageParts) (a : RackState) → IsPage page → PutsSet name page a a (Err (errors.Page reasons.Memory))
 not_trapped name page a valid = record {
   valid = valid;
   keeps = unchanged a;
-  told = λ tells. refl;
+  reported = λ tells. refl;
   asked = asks_none_of a.asked (name ∷ []);
   answer = refl;
 }
@@ -76,7 +76,7 @@ module _ (words : TrapsWords) (page : PageParts) (a b : TrayState) (r r' : RackS
     created = answer.asked;
     finished = answer.finished;
   }
-  put_answer (Err causes.SetUnwritten) answer = inr (
+  put_answer (Err errors.SetUnwritten) answer = inr (
     record {
       calm = reads.count;
       begun = reads.answer.1;
@@ -88,18 +88,18 @@ module _ (words : TrapsWords) (page : PageParts) (a b : TrayState) (r r' : RackS
     },
     answer.1,
   )
-  put_answer (Err (causes.Page refusals.Memory)) answer = inl (NotRead.no_memory refl reads.count, answer)
-  put_answer (Err (causes.Page refusals.Usage)) answer = absurd answer
-  put_answer (Err (causes.Page (refusals.Job fault))) answer = absurd answer
-  put_answer (Err (causes.Page (refusals.NoDetails k))) answer = absurd answer
-  put_answer (Err (causes.Page (refusals.Plate k fault))) answer = absurd answer
-  put_answer (Err (causes.Page (refusals.Page fault))) answer = absurd answer
-  put_answer (Err (causes.Page (refusals.Read file))) answer = absurd answer
-  put_answer (Err (causes.Page (refusals.Write file))) answer = absurd answer
-  put_answer (Err causes.NoCommand) answer = absurd answer
-  put_answer (Err causes.SetUnread) answer = absurd answer
-  put_answer (Err (causes.BadLine n)) answer = absurd answer
-  put_answer (Err causes.Differs) answer = absurd answer
+  put_answer (Err (errors.Page reasons.Memory)) answer = inl (NotRead.no_memory refl reads.count, answer)
+  put_answer (Err (errors.Page reasons.Usage)) answer = absurd answer
+  put_answer (Err (errors.Page (reasons.Job fault))) answer = absurd answer
+  put_answer (Err (errors.Page (reasons.NoDetails k))) answer = absurd answer
+  put_answer (Err (errors.Page (reasons.Plate k fault))) answer = absurd answer
+  put_answer (Err (errors.Page (reasons.Page fault))) answer = absurd answer
+  put_answer (Err (errors.Page (reasons.Read file))) answer = absurd answer
+  put_answer (Err (errors.Page (reasons.Write file))) answer = absurd answer
+  put_answer (Err errors.NoCommand) answer = absurd answer
+  put_answer (Err errors.SetUnread) answer = absurd answer
+  put_answer (Err (errors.BadLine n)) answer = absurd answer
+  put_answer (Err errors.Differs) answer = absurd answer
 
 -- A page that was read is trapped, and its set written.
 pub page_put : (words : TrapsWords) (page : PageParts) (a b : TrayState) (r r' : RackState) (result : Result (Unit {0}) TrapsetError) → ReadsPage (sources_of words) a b (Ok page) → PutsSet words.set page r r' result → CarriesOut (Traps words) a b r r' result
@@ -109,7 +109,7 @@ page_put words page a b r r' result read puts =
       asked = reads.asked;
       in_hand = inr reads.in_hand;
       rack_keeps = puts.keeps;
-      told = puts.told;
+      reported = puts.reported;
       created = puts.asked;
       answer = put_answer words page a b r r' reads puts.valid result puts.answer;
     }

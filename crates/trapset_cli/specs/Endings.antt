@@ -1,7 +1,7 @@
 -- How the steps of a command end.
 use Rattle.std.specs.Prelude.{◌≡◌, ◌⊎◌, ℕ, ◌+◌, ◌<◌, IsTrue, List, length, take, All, Some, None}
 use Rattle.std.specs.Prelude.{Result, Ok, Err}
-use Rattle.outside.specs.Causes.{Rose, RoseOnce, Asks, AsksPrefix}
+use Rattle.outside.specs.ErrorCases.{Rose, RoseOnce, Asks, AsksPrefix}
 use Rattle.outside.specs.Tray.{TrayState}
 use Rattle.outside.specs.Rack.{RackState, KeepsRack}
 use Rattle.page_files.specs.Gathering.{BreaksReading, InHand, files_to}
@@ -13,15 +13,15 @@ use Rattle.page_model.specs.Conditions.{IsPage, IsPlane}
 use Rattle.page_files.specs.Files.{Written, plate_files}
 use Rattle.page_files.specs.Writing.{FinishesAll, WritesAll, BreaksAt}
 use Rattle.pgm_plates.specs.declared.plate.Plate.{Plate as PlateRead}
-use Rattle.trapset_cli.specs.declared.cause.TrapsetError.{TrapsetError}
-use Rattle.trapset_cli.specs.declared.cause.TrapsetError.TheVariants.{NoCommand, Page, SetUnread}
-use Rattle.trapset_cli.specs.declared.cause.TrapsetError.TheVariants.{SetUnwritten}
-use Rattle.trapset_cli.specs.Causes.{RefusesCause, cause_status}
+use Rattle.trapset_cli.specs.declared.reason.TrapsetError.{TrapsetError}
+use Rattle.trapset_cli.specs.declared.reason.TrapsetError.TheVariants.{NoCommand, Page, SetUnread}
+use Rattle.trapset_cli.specs.declared.reason.TrapsetError.TheVariants.{SetUnwritten}
+use Rattle.trapset_cli.specs.ErrorCases.{RefusesError, error_status}
 use Rattle.trapset_cli.specs.Commands.{inputs_of, read_names, sources_of, written_names}
 use Rattle.trapset_cli.specs.Verdicts.{ArePlanes, IsVerdict, Refused, Out, set_files}
 use Rattle.trapset_cli.specs.Words.{ApplyWords, Command, Traps, Apply, command_of, outputs_of}
-use Rattle.refusals.specs.declared.refusal.Refusal.TheVariants.{Plate, Read, Write, Memory}
-use Rattle.refusals.specs.Statuses.{done, job_refused, page_refused, not_read, set_refused}
+use Rattle.common_errors.specs.declared.common.CommonError.TheVariants.{Plate, Read, Write, Memory}
+use Rattle.common_errors.specs.Statuses.{done, job_refused, page_refused, not_read, set_refused}
 use Rattle.trap_set.specs.Applying.{BreaksOff, EndsWith}
 
 -- What a command may write, whatever its files: of `traps` the set of a page, of `apply` planes in
@@ -40,7 +40,7 @@ IsToWrite command tray written = MayWrite command written
 
 -- the files that are begun where that cause comes: none comes after the one that is refused
 abbrev pub names_to : Command → TrapsetError → List (List ℕ)
-names_to (Traps words) (Page refusal) = files_to (sources_of words) refusal
+names_to (Traps words) (Page error) = files_to (sources_of words) error
 names_to (Apply words) (Page (Plate plate fault)) = take (plate + 1) (inputs_of words)
 names_to (Apply words) (Page (Read (Some plate))) = take (plate + 1) (inputs_of words)
 names_to command other = read_names command
@@ -71,14 +71,14 @@ Breaks command other before after = ⊥
 
 -- the input is refused: of `traps` the job, a plate or the page, of `apply` a plate or the set
 abbrev pub IsOfInput : Command → TrapsetError → Type 0
-IsOfInput (Traps words) cause = (cause_status cause ≡ job_refused)
-    ⊎ (cause_status cause ≡ page_refused)
-IsOfInput (Apply words) cause = (cause_status cause ≡ page_refused)
-    ⊎ (cause_status cause ≡ set_refused)
+IsOfInput (Traps words) reason = (error_status reason ≡ job_refused)
+    ⊎ (error_status reason ≡ page_refused)
+IsOfInput (Apply words) reason = (error_status reason ≡ page_refused)
+    ⊎ (error_status reason ≡ set_refused)
 
 -- No fault of the tray is passed over where the input is refused.
 abbrev pub Passes : TrapsetError → TrayState → TrayState → Type 0
-Passes (Page refusal) before after = PassesNoFault {T = Unit {0}} before after (Err refusal)
+Passes (Page error) before after = PassesNoFault {T = Unit {0}} before after (Err error)
 Passes other before after = after.faults ≡ before.faults
 
 -- The set is in hand: all plates are read, and what is left is the end of the set's file.
@@ -97,31 +97,31 @@ HasInHand (Apply words) before after = (after ≡ before) ⊎ PlateInHand (input
 
 -- Why there is nothing to write: the input is refused, a read failed, or there was no memory.
 pub data NotRead (command : Command) (before after : TrayState)
-    (cause : TrapsetError) : Type 0 where
-  refused : IsOfInput command cause → Passes cause before after
-      → Asks before.asked after.asked (names_to command cause)
-      → (IsTrue before.tells → IsVerdict before.file command (Refused cause))
-      → NotRead command before after cause
-  unread : cause_status cause ≡ not_read → Rose before.faults after.faults
-      → Asks before.asked after.asked (names_to command cause) → Breaks command cause before after
-      → NotRead command before after cause
-  no_memory : cause ≡ Page Memory → after.faults ≡ before.faults
-      → NotRead command before after cause
+    (reason : TrapsetError) : Type 0 where
+  refused : IsOfInput command reason → Passes reason before after
+      → Asks before.asked after.asked (names_to command reason)
+      → (IsTrue before.tells → IsVerdict before.file command (Refused reason))
+      → NotRead command before after reason
+  unread : error_status reason ≡ not_read → Rose before.faults after.faults
+      → Asks before.asked after.asked (names_to command reason) → Breaks command reason before after
+      → NotRead command before after reason
+  no_memory : reason ≡ Page Memory → after.faults ≡ before.faults
+      → NotRead command before after reason
 
 -- the file of that number was not written
 abbrev pub IsUnwritten : Command → TrapsetError → ℕ → Type 0
-IsUnwritten (Traps words) cause place = (cause ≡ SetUnwritten) × (place ≡ 0)
-IsUnwritten (Apply words) cause place = cause ≡ Page (Write (Some place))
+IsUnwritten (Traps words) reason place = (reason ≡ SetUnwritten) × (place ≡ 0)
+IsUnwritten (Apply words) reason place = reason ≡ Page (Write (Some place))
 
 -- All is read, and one of the files breaks.
 pub record NotWritten (command : Command) (tray tray' : TrayState) (rack rack' : RackState)
-    (cause : TrapsetError) : Type 0 where
+    (reason : TrapsetError) : Type 0 where
   pub calm : tray'.faults ≡ tray.faults
   pub begun : Asks tray.asked tray'.asked (read_names command)
   pub written : List Written
   pub to_write : IsToWrite command tray written
   pub place : ℕ
-  pub is : IsUnwritten command cause place
+  pub is : IsUnwritten command reason place
   pub breaks : BreaksAt written place rack rack'
 
 -- All is read and written.
@@ -140,9 +140,9 @@ pub record IsDone (command : Command) (tray tray' : TrayState)
 abbrev pub Answers : Command → TrayState → TrayState → RackState → RackState
     → Result (Unit {0}) TrapsetError → Type 0
 Answers command tray tray' rack rack' (Ok nothing) = IsDone command tray tray' rack rack'
-Answers command tray tray' rack rack' (Err cause) =
-    (NotRead command tray tray' cause × (rack' ≡ rack))
-    ⊎ (NotWritten command tray tray' rack rack' cause × RoseOnce rack.faults rack'.faults)
+Answers command tray tray' rack rack' (Err reason) =
+    (NotRead command tray tray' reason × (rack' ≡ rack))
+    ⊎ (NotWritten command tray tray' rack rack' reason × RoseOnce rack.faults rack'.faults)
 
 -- A command is carried out: all is read, and only then written. Nothing is printed.
 pub record CarriesOut (command : Command) (tray tray' : TrayState) (rack rack' : RackState)
@@ -150,14 +150,14 @@ pub record CarriesOut (command : Command) (tray tray' : TrayState) (rack rack' :
   pub asked : AsksPrefix tray.asked tray'.asked (read_names command)
   pub in_hand : HasInHand command tray tray'
   pub rack_keeps : KeepsRack rack rack'
-  pub told : IsTrue rack.tells → rack'.told ≡ rack.told
+  pub reported : IsTrue rack.tells → rack'.reported ≡ rack.reported
   pub created : AsksPrefix rack.asked rack'.asked (written_names command)
   pub answer : Answers command tray tray' rack rack' result
 
 -- the status, and the line where there is a cause
 abbrev pub Closes : Result (Unit {0}) TrapsetError → RackState → RackState → ℕ → Type 0
 Closes (Ok nothing) before after status = (after ≡ before) × (status ≡ done)
-Closes (Err cause) before after status = RefusesCause cause before after status
+Closes (Err reason) before after status = RefusesError reason before after status
 
 -- A command is carried out and closed.
 pub record EndsCommand (command : Command) (tray tray' : TrayState) (rack rack' : RackState)
@@ -170,7 +170,7 @@ pub record EndsCommand (command : Command) (tray tray' : TrayState) (rack rack' 
 -- The words are carried out, or they are no command.
 pub data Ends (words : List (List ℕ)) (tray tray' : TrayState) (rack rack' : RackState)
     (status : ℕ) : Type 0 where
-  no_command : command_of words ≡ None → tray' ≡ tray → RefusesCause NoCommand rack rack' status
+  no_command : command_of words ≡ None → tray' ≡ tray → RefusesError NoCommand rack rack' status
       → Ends words tray tray' rack rack' status
   command : (command : Command) → command_of words ≡ Some command
       → EndsCommand command tray tray' rack rack' status → Ends words tray tray' rack rack' status

@@ -1,7 +1,7 @@
 pub mod Words
-pub mod Held
+pub mod Stored
 pub mod Commands
-pub mod Causes
+pub mod ErrorCases
 pub mod Verdicts
 pub mod Endings
 pub mod Putting

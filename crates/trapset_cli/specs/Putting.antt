@@ -1,7 +1,7 @@
 -- The steps of `traps` and of `apply`.
 use Rattle.std.specs.Prelude.{◌≡◌, ℕ, ◌*◌, ◌≤◌, IsTrue, List, [], ◌∷◌, length, All, Result}
 use Rattle.std.specs.Prelude.{Ok, Err}
-use Rattle.outside.specs.Causes.{Asks, AsksPrefix, RoseOnce}
+use Rattle.outside.specs.ErrorCases.{Asks, AsksPrefix, RoseOnce}
 use Rattle.outside.specs.Tray.{TrayState}
 use Rattle.outside.specs.Rack.{RackState, KeepsRack}
 use Rattle.page_model.specs.declared.parts.PageParts.{PageParts}
@@ -9,18 +9,18 @@ use Rattle.page_model.specs.declared.parts.Plane.{Plane}
 use Rattle.page_model.specs.Conditions.{IsPage, IsPlane}
 use Rattle.page_model.specs.Limits.{most_samples}
 use Rattle.page_files.specs.Writing.{WritesAll, WritesPlates, BreaksAt}
-use Rattle.trapset_cli.specs.declared.cause.TrapsetError.{TrapsetError}
-use Rattle.trapset_cli.specs.declared.cause.TrapsetError.TheVariants.{Page, SetUnread, SetUnwritten}
-use Rattle.trapset_cli.specs.declared.cause.TrapsetError.TheVariants.{BadLine, Differs}
+use Rattle.trapset_cli.specs.declared.reason.TrapsetError.{TrapsetError}
+use Rattle.trapset_cli.specs.declared.reason.TrapsetError.TheVariants.{Page, SetUnread, SetUnwritten}
+use Rattle.trapset_cli.specs.declared.reason.TrapsetError.TheVariants.{BadLine, Differs}
 use Rattle.trapset_cli.specs.Commands.{inputs_of, read_names}
 use Rattle.trapset_cli.specs.Endings.{HasInHand, NotRead}
 use Rattle.trapset_cli.specs.Verdicts.{Gives, OnPlanes, set_files}
 use Rattle.trapset_cli.specs.Words.{ApplyWords, Apply}
-use Rattle.refusals.specs.declared.refusal.Refusal.TheVariants.{Memory}
+use Rattle.common_errors.specs.declared.common.CommonError.TheVariants.{Memory}
 use Rattle.trap_set.specs.Applying.{AppliesSet}
-use Rattle.trap_set.specs.declared.apply.SetRefusal.TheVariants.{BadLine as bad_line}
-use Rattle.trap_set.specs.declared.apply.SetRefusal.TheVariants.{Differs as differs}
-use Rattle.trap_set.specs.declared.apply.SetRefusal.TheVariants.{ReadFault as read_fault}
+use Rattle.trap_set.specs.declared.apply.SetError.TheVariants.{BadLine as bad_line}
+use Rattle.trap_set.specs.declared.apply.SetError.TheVariants.{Differs as differs}
+use Rattle.trap_set.specs.declared.apply.SetError.TheVariants.{ReadFault as read_fault}
 
 -- What the answer says where a page is trapped and its set written.
 abbrev pub AnswersPut : List ℕ → PageParts → RackState → RackState → Result (Unit {0}) TrapsetError
@@ -36,7 +36,7 @@ pub record PutsSet (name : List ℕ) (page : PageParts) (before after : RackStat
     (result : Result (Unit {0}) TrapsetError) : Type 0 where
   pub valid : IsPage page
   pub keeps : KeepsRack before after
-  pub told : IsTrue before.tells → after.told ≡ before.told
+  pub reported : IsTrue before.tells → after.reported ≡ before.reported
   pub asked : AsksPrefix before.asked after.asked (name ∷ [])
   pub answer : AnswersPut name page before after result
 
@@ -69,7 +69,7 @@ AnswersPatch words before after (Ok new) = (after.faults ≡ before.faults)
     × Asks before.asked after.asked (read_names (Apply words))
     × AreInRange new (length (inputs_of words))
     × (IsTrue before.tells → OnPlanes before.file words (Gives new))
-AnswersPatch words before after (Err cause) = NotRead (Apply words) before after cause
+AnswersPatch words before after (Err reason) = NotRead (Apply words) before after reason
 
 -- The plates are read, and the set is put onto them.
 pub record PatchesPlanes (words : ApplyWords) (before after : TrayState)
@@ -84,6 +84,6 @@ abbrev pub PutsPlates : List (List ℕ) → List Plane → RackState → RackSta
     → Type 0
 PutsPlates outputs planes before after (Ok nothing) =
     WritesPlates {T = Unit {0}} outputs planes before after (Ok tt)
-PutsPlates outputs planes before after (Err (Page refusal)) =
-    WritesPlates {T = Unit {0}} outputs planes before after (Err refusal)
+PutsPlates outputs planes before after (Err (Page error)) =
+    WritesPlates {T = Unit {0}} outputs planes before after (Err error)
 PutsPlates outputs planes before after (Err other) = ⊥

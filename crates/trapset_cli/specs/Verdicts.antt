@@ -9,11 +9,11 @@ use Rattle.pgm_plates.specs.declared.plate.Plate.{Plate as PlateRead}
 use Rattle.pgm_plates.specs.declared.plate.PlateFault.{PlateFault}
 use Rattle.pgm_plates.specs.Faults.{IsFault}
 use Rattle.pgm_plates.specs.Planes.{plane_of}
-use Rattle.trapset_cli.specs.declared.cause.TrapsetError.{TrapsetError}
-use Rattle.trapset_cli.specs.declared.cause.TrapsetError.TheVariants.{Page, BadLine, Differs}
+use Rattle.trapset_cli.specs.declared.reason.TrapsetError.{TrapsetError}
+use Rattle.trapset_cli.specs.declared.reason.TrapsetError.TheVariants.{Page, BadLine, Differs}
 use Rattle.trapset_cli.specs.Commands.{inputs_of, sources_of}
 use Rattle.trapset_cli.specs.Words.{TrapsWords, ApplyWords, Command, Traps, Apply, outputs_of}
-use Rattle.refusals.specs.declared.refusal.Refusal.TheVariants.{Plate}
+use Rattle.common_errors.specs.declared.common.CommonError.TheVariants.{Plate}
 use Rattle.trap_set.specs.Applied.{applied}
 use Rattle.trap_set.specs.Applying.{Differ, Fits}
 use Rattle.trap_set.specs.Lines.{IsBadLine}
@@ -78,8 +78,8 @@ pub record OnPlanes (files : List ℕ → Option (List ℕ)) (words : ApplyWords
 
 -- The job is judged first, then each plate in order, then what they make.
 abbrev pub IsTraps : (List ℕ → Option (List ℕ)) → TrapsWords → Verdict → Type 0
-IsTraps files words (Refused (Page refusal)) =
-    IsPageVerdict one_page files (sources_of words) no_files (page_refused refusal)
+IsTraps files words (Refused (Page error)) =
+    IsPageVerdict one_page files (sources_of words) no_files (page_refused error)
 IsTraps files words (Refused other) = ⊥
 IsTraps files words (Out written) = (page : PageParts)
     × Makes one_page files (sources_of words) (Ok page) × (written ≡ set_files words.set page)

@@ -2,19 +2,19 @@ ghost use Rattle.std.specs.Prelude.{◌≤◌, length, map};
 ghost use Rattle.trapset_cli.specs.Endings.{CarriesOut};
 ghost use Rattle.trapset_cli.specs.Putting.{AreInRange, PutsPlates};
 ghost use Rattle.plain_words.specs.Inputs.{AreFew};
-ghost use Rattle.trapset_cli.specs.Held.{apply_in};
+ghost use Rattle.trapset_cli.specs.Stored.{apply_in};
 ghost use Rattle.trapset_cli.specs.Words.{Apply as apply};
 ghost use Rattle.page_model.specs.Limits.{most_plates};
 
-use crate::cause::TrapsetError;
 use crate::command::ApplyArgs;
 use crate::planes::patched_planes;
+use crate::reason::TrapsetError;
+use common_errors::common::CommonError;
 use outside::rack::Rack;
 use outside::tray::Tray;
-use page_model::parts::PlaneList;
 use page_files::writing::write_plates;
+use page_model::parts::PlaneList;
 use plain_words::files::copy_outputs;
-use refusals::refusal::Refusal;
 use std::alloc::Global;
 
 // Runs the command `apply`: reads the plates and then the set, and only then writes the plates. All memory is allocated
@@ -30,11 +30,11 @@ pub(crate) fn carry_out_apply<T: Tray, R: Rack>(
         (R.state rack.old) (R.state rack.new) result }
 {
     let Ok(outputs) = copy_outputs(alloc, command.plates) else {
-        return Err(TrapsetError::Page(Refusal::Memory));
+        return Err(TrapsetError::Page(CommonError::Memory));
     };
     match patched_planes(alloc, command, tray) {
         Ok(planes) => put_plates(rack, outputs.as_slice(), planes),
-        Err(cause) => Err(cause),
+        Err(reason) => Err(reason),
     }
 }
 
@@ -50,6 +50,6 @@ fn put_plates<R: Rack>(
 {
     match write_plates(rack, outputs, planes) {
         Ok(()) => Ok(()),
-        Err(refusal) => Err(TrapsetError::Page(refusal)),
+        Err(error) => Err(TrapsetError::Page(error)),
     }
 }

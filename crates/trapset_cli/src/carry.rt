@@ -1,13 +1,13 @@
 ghost use Rattle.trapset_cli.specs.Endings.{CarriesOut, EndsCommand};
-ghost use Rattle.trapset_cli.specs.Held.{IsWithin, command_in};
+ghost use Rattle.trapset_cli.specs.Stored.{IsWithin, command_in};
 
 use crate::apply::carry_out_apply;
-use crate::cause::{TrapsetError, refuse_by};
 use crate::command::Command;
+use crate::reason::{TrapsetError, refuse_by};
 use crate::traps::carry_out_traps;
+use common_errors::statuses::DONE;
 use outside::rack::Rack;
 use outside::tray::Tray;
-use refusals::statuses::DONE;
 use std::alloc::Global;
 
 // Runs a command, and returns the status that the program exits with.
@@ -23,7 +23,7 @@ pub(crate) fn run_command<T: Tray, R: Rack>(
 {
     match carry_out(alloc, command, tray, rack) {
         Ok(()) => DONE,
-        Err(cause) => refuse_by(rack, &cause),
+        Err(reason) => refuse_by(rack, &reason),
     }
 }
 

@@ -1,6 +1,6 @@
 ghost use Rattle.std.specs.Prelude.{◌≡◌, IfSome, length, map, option_map, string_bytes};
 ghost use Rattle.plain_words.specs.Inputs.{AreFew};
-ghost use Rattle.trapset_cli.specs.Held.{IsWithin, apply_in, command_in, traps_in};
+ghost use Rattle.trapset_cli.specs.Stored.{IsWithin, apply_in, command_in, traps_in};
 ghost use Rattle.trapset_cli.specs.Words.{apply_of, command_of, traps_of};
 
 use crate::plates::are_copied;

@@ -4,9 +4,9 @@
 
 mod apply;
 mod carry;
-pub mod cause;
 mod command;
 mod planes;
 mod plates;
+pub mod reason;
 pub mod top;
 mod traps;

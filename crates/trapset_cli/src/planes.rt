@@ -3,19 +3,19 @@
 ghost use Rattle.std.specs.Prelude.{◌≤◌, All, length};
 ghost use Rattle.trapset_cli.specs.Putting.{Patches, PatchesPlanes};
 ghost use Rattle.plain_words.specs.Inputs.{AreFew};
-ghost use Rattle.trapset_cli.specs.Held.{apply_in};
+ghost use Rattle.trapset_cli.specs.Stored.{apply_in};
 ghost use Rattle.trap_set.specs.Applying.{IsFull};
 
-use crate::cause::TrapsetError;
 use crate::command::ApplyArgs;
+use crate::reason::TrapsetError;
+use common_errors::common::CommonError;
 use outside::tray::Tray;
 use page_files::plates::read_plates;
 use page_model::parts::PlaneList;
 use pgm_plates::laws::plane_turns_back;
 use plain_words::files::copy_inputs;
-use refusals::refusal::Refusal;
 use std::alloc::Global;
-use trap_set::{SetRefusal, apply_set};
+use trap_set::{SetError, apply_set};
 
 /// Reads the plates in the order of the words and then the set, and returns the planes with the set applied.
 pub(crate) fn patched_planes<T: Tray>(
@@ -27,14 +27,14 @@ pub(crate) fn patched_planes<T: Tray>(
     ensures { PatchesPlanes (apply_in command.now) (T.state tray.old) (T.state tray.new) result }
 {
     let Ok(inputs) = copy_inputs(alloc, command.plates) else {
-        return Err(TrapsetError::Page(Refusal::Memory));
+        return Err(TrapsetError::Page(CommonError::Memory));
     };
     match read_plates(alloc, tray, inputs.as_slice()) {
         Ok(planes) => {
             plane_turns_back();
             patch_planes(tray, command.set, planes)
         }
-        Err(refusal) => Err(TrapsetError::Page(refusal)),
+        Err(error) => Err(TrapsetError::Page(error)),
     }
 }
 
@@ -51,8 +51,8 @@ fn patch_planes<T: Tray>(
     let mut planes = planes;
     match apply_set(tray, set, &mut planes) {
         Ok(()) => Ok(planes),
-        Err(SetRefusal::BadLine(line)) => Err(TrapsetError::BadLine(line)),
-        Err(SetRefusal::Differs) => Err(TrapsetError::Differs),
-        Err(SetRefusal::ReadFault) => Err(TrapsetError::SetUnread),
+        Err(SetError::BadLine(line)) => Err(TrapsetError::BadLine(line)),
+        Err(SetError::Differs) => Err(TrapsetError::Differs),
+        Err(SetError::ReadFault) => Err(TrapsetError::SetUnread),
     }
 }

@@ -3,8 +3,8 @@ ghost use Rattle.trapset_cli.specs.Clauses.{Success, Usage, RefusedInput, ReadFa
 ghost use Rattle.trapset_cli.specs.Endings.{Ends};
 
 use crate::carry::run_command;
-use crate::cause::{TrapsetError, refuse_by};
 use crate::command::read_words;
+use crate::reason::{TrapsetError, refuse_by};
 use outside::rack::Rack;
 use outside::tray::Tray;
 use pgm_plates::laws::{not_both, one_fault, one_plate};
@@ -18,7 +18,7 @@ use std::alloc::Global;
 ///
 /// The status is 0 if the work is done; 2 if the words are no command; 3 if the job has a fault or lacks the details of
 /// a plate's colorant; 4 if a plate's file has a fault, or the plates do not make a page; 5 if a read failed; 6 if a
-/// write failed; 7 if memory ran out; and 8 if the set has a bad line or is for other plates. Each refusal prints one
+/// write failed; 7 if memory ran out; and 8 if the set has a bad line or is for other plates. Each error prints one
 /// line that names the cause.
 pub fn trapset_main<T: Tray, R: Rack>(
     alloc: Global,

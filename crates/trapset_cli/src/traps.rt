@@ -4,18 +4,18 @@ ghost use Rattle.trapset_cli.specs.Commands.{sources_of};
 ghost use Rattle.trapset_cli.specs.Endings.{CarriesOut};
 ghost use Rattle.trapset_cli.specs.Putting.{PutsSet};
 ghost use Rattle.plain_words.specs.Inputs.{AreFew};
-ghost use Rattle.trapset_cli.specs.Held.{traps_in};
+ghost use Rattle.trapset_cli.specs.Stored.{traps_in};
 ghost use Rattle.trapset_cli.specs.Words.{Traps as traps};
 
-use crate::cause::TrapsetError;
 use crate::command::TrapsArgs;
+use crate::reason::TrapsetError;
+use common_errors::common::CommonError;
 use outside::rack::Rack;
-use outside::tray::{Failed, Tray};
+use outside::tray::{DeviceError, Tray};
 use page_files::gather::gather;
 use page_model::page::Page;
-use plain_words::files::{input_files, input_names};
 use page_model::shape_laws::page_planes_law;
-use refusals::refusal::Refusal;
+use plain_words::files::{input_files, input_names};
 use std::alloc::Global;
 use strip_engine::trap_alone;
 use trap_set::write_set;
@@ -33,12 +33,16 @@ pub(crate) fn carry_out_traps<T: Tray, R: Rack>(
 {
     match read_page(alloc, command, tray) {
         Ok(page) => put_set(alloc, &page, command.set, rack),
-        Err(refusal) => Err(TrapsetError::Page(refusal)),
+        Err(error) => Err(TrapsetError::Page(error)),
     }
 }
 
 // Reads the page of the command's job and plates.
-fn read_page<T: Tray>(alloc: Global, command: &TrapsArgs<'_>, tray: &mut T) -> Result<Page, Refusal>
+fn read_page<T: Tray>(
+    alloc: Global,
+    command: &TrapsArgs<'_>,
+    tray: &mut T,
+) -> Result<Page, CommonError>
     requires { AreFew (length command.now.plates.now) }
     ensures { ReadsPage (sources_of (traps_in command.now)) (T.state tray.old)
         (T.state tray.new) result }
@@ -48,7 +52,7 @@ fn read_page<T: Tray>(alloc: Global, command: &TrapsArgs<'_>, tray: &mut T) -> R
         input_files(alloc, command.plates),
     ) {
         (Ok(names), Ok(inputs)) => gather(alloc, tray, command.job, &names, inputs.as_slice()),
-        _ => Err(Refusal::Memory),
+        _ => Err(CommonError::Memory),
     }
 }
 
@@ -64,10 +68,10 @@ fn put_set<R: Rack>(
     let _valid = page.plates();
     page_planes_law(page);
     let Ok(trapped) = trap_alone(alloc, page) else {
-        return Err(TrapsetError::Page(Refusal::Memory));
+        return Err(TrapsetError::Page(CommonError::Memory));
     };
     match write_set(rack, name, page.planes(), &trapped.planes) {
         Ok(()) => Ok(()),
-        Err(Failed) => Err(TrapsetError::SetUnwritten),
+        Err(DeviceError) => Err(TrapsetError::SetUnwritten),
     }
 }

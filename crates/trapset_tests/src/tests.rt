@@ -172,7 +172,7 @@ fn looks(rack: &MemRack, names: &[&str], look: Look<'_>) -> bool {
 }
 
 fn tells(rack: &MemRack, text: &str) -> bool {
-    rack.told() == text.as_bytes()
+    rack.reported() == text.as_bytes()
 }
 
 // Whether that stands in the file of that name, or there is none.

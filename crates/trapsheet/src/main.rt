@@ -1,10 +1,10 @@
 //! The program `trapsheet`: passes its words, the disk and standard output to the top call.
 #![tactic(auto)]
 
+use common_errors::words::words;
 use outside::disk_rack::DiskRack;
 use outside::disk_tray::DiskTray;
 use page_model::bounds::MOST_PLATES;
-use refusals::words::words;
 use std::array;
 use std::process::ExitCode;
 use trapsheet_cli::top::trapsheet_main;

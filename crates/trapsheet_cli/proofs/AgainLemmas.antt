@@ -2,7 +2,7 @@
 use Rattle.std.proofs.Common.{◌≡◌, ◌≢◌, ◌⊎◌, ℕ, zero, suc, ◌<◌, ◌≤◌, List, [], ◌∷◌, ◌++◌, length, take, drop, Option, Some, None, Err, inl, inr, sym, ap, ◌∙◌, subst, arith, append_assoc}
 use Rattle.std.proofs.lemmas.Bool.{cases_lt}
 use Rattle.std.proofs.lemmas.List.{take-append-drop}
-use Rattle.outside.specs.Causes.{Asks, AsksPrefix, Rose}
+use Rattle.outside.specs.ErrorCases.{Asks, AsksPrefix, Rose}
 use Rattle.outside.specs.Tray.{TrayState, KeepsTray}
 use Rattle.outside.proofs.Names.{asks_all, asks_before, asks_then}
 use Rattle.page_files.specs.Inputs.{Sources, name_at}
@@ -10,12 +10,12 @@ use Rattle.page_files.specs.Steps.{TakesPlate}
 use Rattle.page_files.proofs.LookLemmas.{last_asked}
 use Rattle.pgm_plates.specs.declared.bounds.Bounds.TheVariants.{Sheet}
 use Rattle.pgm_plates.specs.declared.header.Header.{Header}
-use Rattle.pgm_plates.specs.declared.plate.PlateRefusal.TheVariants.{ReadFault}
+use Rattle.pgm_plates.specs.declared.plate.PlateError.TheVariants.{ReadFault}
 use Rattle.pgm_plates.specs.Reading.{ReadsPlateWithin}
 use Rattle.plate_rows.specs.Laws.{NoChange}
 use Rattle.plate_rows.specs.Rereading.{HasChanged as PlateChanges, Interrupts}
 use Rattle.plate_rows.specs.Trays.{TakesFile, TakesFiles}
-use Rattle.plate_rows.proofs.StopLemmas.{went_rows}
+use Rattle.plate_rows.proofs.ErrorLemmas.{went_rows}
 use Rattle.sheet_geometry.specs.declared.budget.Budget.{Budget}
 use Rattle.sheet_files.specs.declared.planning.PlannedSheet.{PlannedSheet}
 use Rattle.sheet_files.specs.Gathering.{AsksAll, AsksTwice, FailsAgain, HasChanged, HasPlate, InHand, StopsAgain, TakesTrays, TakesTwice}
@@ -100,21 +100,21 @@ module _ (source : Sources) (a b c : List TrayState) (one : TakesTrays source a 
     }
 
   -- The second reading stops at a plate.
-  module _ (calm : (k : ℕ) → IsCalm a b k) (plate : ℕ) (stop : Interrupts source.inputs (length source.inputs) plate b c) where
+  module _ (calm : (k : ℕ) → IsCalm a b k) (plate : ℕ) (error : Interrupts source.inputs (length source.inputs) plate b c) where
     pub takes_to : TakesTwice source a c
-    takes_to = takes_twice stop.begun stop.most stop.takes
+    takes_to = takes_twice error.begun error.most error.takes
 
     calm_else : (k : ℕ) → k ≢ plate → IsCalm a c k
     calm_else k other = elim (cases_lt k plate) [
-      | inl less ↦ stop.calm k (inl less) ∙ calm k
-      | inr more ↦ stop.calm k (inr (omega (arith, more, other))) ∙ calm k
+      | inl less ↦ error.calm k (inl less) ∙ calm k
+      | inr more ↦ error.calm k (inr (omega (arith, more, other))) ∙ calm k
     ]
 
     stops_again : Asks (tray_at b plate).asked (tray_at c plate).asked (name_at source.inputs plate ∷ []) → StopsAgain source plate a c
     stops_again again = record {
-      known = stop.known;
-      begun = asks_again plate stop.known again;
-      others = once_or_twice stop.begun stop.most stop.takes;
+      known = error.known;
+      begun = asks_again plate error.known again;
+      others = once_or_twice error.begun error.most error.takes;
       calm = calm_else;
     }
 
@@ -131,13 +131,13 @@ module _ (source : Sources) (a b c : List TrayState) (one : TakesTrays source a 
     asks_changed header (inl other) = (went_rows (name_at source.inputs plate) (tray_at b plate) (tray_at c plate) other.plate [] other.read).takes.asked
     asks_changed header (inr fault) = fault.1.asked
 
-    pub has_changed : NoChange → (budget : Budget) (judged : PlannedSheet) → IsJudged source budget a judged → PlateChanges (name_at source.inputs plate) (header_in judged.bare) (tray_at b plate) (tray_at c plate) → HasChanged source plate a c
+    pub has_changed : NoChange → (budget : Budget) (judged : PlannedSheet) → IsJudged source budget a judged → PlateChanges (name_at source.inputs plate) (header_in judged.outline) (tray_at b plate) (tray_at c plate) → HasChanged source plate a c
     has_changed law budget judged is changed =
         let keeps = one.keeps plate in
         record {
-          stops = stops_again (asks_changed (header_in judged.bare) changed);
+          stops = stops_again (asks_changed (header_in judged.outline) changed);
           untold = λ tells.
-              let held = is.headers plate stop.known tells in
-              law (name_at source.inputs plate) (header_in judged.bare) (tray_at b plate) (tray_at c plate) held.0 held.2.0 changed (keeps.tells ∙ tells)
-              (ap (λ (files : List ℕ → Option (List ℕ)). files (name_at source.inputs plate)) keeps.file ∙ held.1) held.2.1 held.2.2;
+              let stored = is.headers plate error.known tells in
+              law (name_at source.inputs plate) (header_in judged.outline) (tray_at b plate) (tray_at c plate) stored.0 stored.2.0 changed (keeps.tells ∙ tells)
+              (ap (λ (files : List ℕ → Option (List ℕ)). files (name_at source.inputs plate)) keeps.file ∙ stored.1) stored.2.1 stored.2.2;
         }

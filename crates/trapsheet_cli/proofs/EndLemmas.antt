@@ -4,7 +4,7 @@ use Rattle.outside.specs.Rack.{RackState}
 use Rattle.page_model.specs.declared.parts.PageParts.{PageParts}
 use Rattle.page_model.specs.declared.parts.Plane.{Plane}
 use Rattle.page_model.specs.Tints.{trapped_planes}
-use Rattle.sheet_files.specs.declared.stop.TrapsheetError.{TrapsheetError}
+use Rattle.sheet_files.specs.declared.error.TrapsheetError.{TrapsheetError}
 use Rattle.page_files.specs.Verdicts.{Targets}
 use Rattle.trapsheet_cli.specs.Endings.{PutsOut}
 use Rattle.sheet_files.specs.Reporting.{sheet_report}

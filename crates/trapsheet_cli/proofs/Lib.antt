@@ -5,5 +5,5 @@ pub mod ClauseLemmas
 pub mod AgainLemmas
 pub mod PartLemmas
 pub mod PlanLemmas
-pub mod HeldLemmas
+pub mod StoredLemmas
 pub mod CarryLemmas

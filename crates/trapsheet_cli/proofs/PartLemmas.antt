@@ -1,13 +1,13 @@
 -- Plates that were written by rows, as the files of a sheet: whole, in part, or broken off.
 use Rattle.std.proofs.Common.{◌≡◌, ◌≢◌, ◌⊎◌, ℕ, zero, suc, ◌<◌, IsTrue, List, [], ◌∷◌, length, take, Option, Some, None, Ok, Err, inl, inr, refl, sym, ap, ◌∙◌, subst, arith}
 use Rattle.std.proofs.lemmas.Bool.{cases_eq, cases_lt}
-use Rattle.sheet_geometry.specs.Bare.{bare_sheet}
-use Rattle.sheet_geometry.proofs.BareLemmas.{height_is, maxval_is, plates_is, width_is}
+use Rattle.sheet_geometry.specs.Outline.{outline_sheet}
+use Rattle.sheet_geometry.proofs.OutlineLemmas.{height_is, maxval_is, plates_is, width_is}
 use Rattle.lists.proofs.ListBelow.{list_below-at}
 use Rattle.outside.specs.Rack.{RackState, put}
 use Rattle.outside.specs.Tray.{TrayState}
 use Rattle.outside.specs.Writing.{WritesFile}
-use Rattle.outside.specs.declared.tray.Failed.{Failed}
+use Rattle.outside.specs.declared.tray.DeviceError.{DeviceError}
 use Rattle.outside.proofs.Names.{asks_before}
 use Rattle.page_files.specs.Inputs.{name_at}
 use Rattle.page_model.specs.declared.parts.PageParts.{PageParts}
@@ -29,9 +29,9 @@ use Rattle.plate_rows.specs.Racks.{rack_at}
 use Rattle.sheet_files.specs.Racks.{BreaksSheet, HoldParts, HoldsPart, KeepsRacks, WritesFirst, plate_file, rack_files, rack_names, targets}
 use Rattle.sheet_files.proofs.RackLemmas.{RackKept, keeps_same, kept_file, kept_is, wrote_one}
 
-header_is : (bare sheet : PageParts) → bare_sheet sheet ≡ bare → sheet_header bare ≡ sheet_header sheet
-header_is bare sheet same =
-    let sides : sheet_header (bare_sheet sheet) ≡ sheet_header sheet = λ i. record { width = width_is sheet i; height = height_is sheet i; maxval = maxval_is sheet i } in
+header_is : (outline sheet : PageParts) → outline_sheet sheet ≡ outline → sheet_header outline ≡ sheet_header sheet
+header_is outline sheet same =
+    let sides : sheet_header (outline_sheet sheet) ≡ sheet_header sheet = λ i. record { width = width_is sheet i; height = height_is sheet i; maxval = maxval_is sheet i } in
     ap sheet_header (sym same) ∙ sides
 
 -- the bytes of a plate are those of the trapped plane
@@ -45,11 +45,11 @@ bytes_are header sheet k same less =
 kept_part : (name bytes : List ℕ) (rest : List (List ℕ)) (a b : RackState) → StandsInPart name bytes a b → RackKept (name ∷ rest) a b
 kept_part name bytes rest a b stands = record {
   keeps = stands.keeps;
-  told = stands.told;
+  reported = stands.reported;
   asked = asks_before a.asked b.asked (name ∷ []) rest stands.asked;
 }
 
-module _ (inputs outputs : List (List ℕ)) (report : List ℕ) (trays : List TrayState) (a : List RackState) (bare sheet : PageParts) (header : Header) (deep : header ≡ sheet_header bare) (same : bare_sheet sheet ≡ bare) (many : length outputs ≡ plates bare) where
+module _ (inputs outputs : List (List ℕ)) (report : List ℕ) (trays : List TrayState) (a : List RackState) (outline sheet : PageParts) (header : Header) (deep : header ≡ sheet_header outline) (same : outline_sheet sheet ≡ outline) (many : length outputs ≡ plates outline) where
   abbrev course : Course
   course = course_of inputs outputs trays a
 
@@ -62,12 +62,12 @@ module _ (inputs outputs : List (List ℕ)) (report : List ℕ) (trays : List Tr
   bytes_at : (k : ℕ) → k < length outputs → plate_bytes header sheet k ≡ encoded (plane_at planes k)
   bytes_at k less =
       let count : plates sheet ≡ length outputs = sym (plates_is sheet) ∙ ap plates same ∙ sym many in
-      bytes_are header sheet k (deep ∙ header_is bare sheet same) (omega (arith, less, count))
+      bytes_are header sheet k (deep ∙ header_is outline sheet same) (omega (arith, less, count))
 
   -- all plates are written whole
-  pub writes_first : (b : List RackState) → AreWritten outputs header (plates bare) (new_tints sheet) a b → WritesFirst outputs planes (length outputs) a b
+  pub writes_first : (b : List RackState) → AreWritten outputs header (plates outline) (new_tints sheet) a b → WritesFirst outputs planes (length outputs) a b
   writes_first b are = record {
-    each = λ k less. subst (λ (bytes : List ℕ). WritesFile {T = Unit {0}} {E = Failed} (name_at outputs k) bytes (rack_at a k) (rack_at b k) (Ok tt)) (bytes_at k less) (are.each k (omega (arith, less, many)));
+    each = λ k less. subst (λ (bytes : List ℕ). WritesFile {T = Unit {0}} {E = DeviceError} (name_at outputs k) bytes (rack_at a k) (rack_at b k) (Ok tt)) (bytes_at k less) (are.each k (omega (arith, less, many)));
     others = λ k more. are.others k (omega (arith, more, many));
   }
 
@@ -91,12 +91,12 @@ module _ (inputs outputs : List (List ℕ)) (report : List ℕ) (trays : List Tr
     kept_may (suc k) (inr stands) = kept_part (name_at outputs (suc k)) (plate_bytes header sheet (suc k)) [] (rack_at a (suc k)) (rack_at b (suc k)) stands
 
     -- Of each plate a prefix stands at most.
-    module _ (stand : PartsStand course bare header b sheet) where
+    module _ (stand : PartsStand course outline header b sheet) where
       pub hold_parts : HoldParts target planes a b
       hold_parts k less = may_hold k less (stand.each k (omega (arith, less, many)))
 
       kept_at : (k : ℕ) → RackKept (rack_names target k) (rack_at a k) (rack_at b k)
-      kept_at k = elim (cases_lt k (plates bare)) [
+      kept_at k = elim (cases_lt k (plates outline)) [
         | inl less ↦ kept_may k (stand.each k less)
         | inr more ↦ kept_is (rack_names target k) (rack_at a k) (rack_at b k) (stand.others k (omega arith))
       ]
@@ -104,13 +104,13 @@ module _ (inputs outputs : List (List ℕ)) (report : List ℕ) (trays : List Tr
       pub parts_keep : KeepsRacks target a b
       parts_keep = record {
         keeps = λ k. (kept_at k).keeps;
-        told = λ k. (kept_at k).told;
+        reported = λ k. (kept_at k).reported;
         asked = λ k. (kept_at k).asked;
         beyond = λ k more. stand.others k (omega (arith, more, many));
       }
 
     -- A plate could not be written whole.
-    module _ (k : ℕ) (breaks : PlateBreaks course bare header k b sheet) where
+    module _ (k : ℕ) (breaks : PlateBreaks course outline header k b sheet) where
       abbrev Here : ℕ → Type 0
       Here j = WritesFile {T = Unit {0}} (name_at outputs j) (encoded (plane_at planes j)) (rack_at a j) (rack_at b j) (Err breaks.failed)
 
@@ -125,25 +125,25 @@ module _ (inputs outputs : List (List ℕ)) (report : List ℕ) (trays : List Tr
       breaks_at (suc j) at = breaks_next [] (plate_file target planes (suc j)) [] (rack_at a (suc j)) (rack_at a (suc j)) (rack_at b (suc j)) breaks.failed (keeps_same (rack_at a (suc j))) (wrote_none [] (rack_at a (suc j)) refl) at
 
       abbrev Wrote : ℕ → Type 0
-      Wrote j = WritesFile {T = Unit {0}} {E = Failed} (name_at outputs j) (plate_bytes header sheet j) (rack_at a j) (rack_at b j) (Ok tt)
+      Wrote j = WritesFile {T = Unit {0}} {E = DeviceError} (name_at outputs j) (plate_bytes header sheet j) (rack_at a j) (rack_at b j) (Ok tt)
 
       whole : (j : ℕ) → j < length outputs → Wrote j → WritesAll (plate_file target planes j ∷ []) (rack_at a j) (rack_at b j)
       whole j less wrote = wrote_one (plate_file target planes j) (rack_at a j) (rack_at b j) tt
-          (subst (λ (bytes : List ℕ). WritesFile {T = Unit {0}} {E = Failed} (name_at outputs j) bytes (rack_at a j) (rack_at b j) (Ok tt)) (bytes_at j less) wrote)
+          (subst (λ (bytes : List ℕ). WritesFile {T = Unit {0}} {E = DeviceError} (name_at outputs j) bytes (rack_at a j) (rack_at b j) (Ok tt)) (bytes_at j less) wrote)
 
       abbrev Other : ℕ → Type 0
       Other j = (rack_at b j ≡ rack_at a j) ⊎ HoldsPart (plate_file target planes j) (rack_at a j) (rack_at b j) ⊎ WritesAll (plate_file target planes j ∷ []) (rack_at a j) (rack_at b j)
 
-      held : (j : ℕ) → (rack_at b j ≡ rack_at a j) ⊎ HoldsPart (plate_file target planes j) (rack_at a j) (rack_at b j) → Other j
-      held j (inl is) = inl is
-      held j (inr part) = inr (inl part)
+      stored : (j : ℕ) → (rack_at b j ≡ rack_at a j) ⊎ HoldsPart (plate_file target planes j) (rack_at a j) (rack_at b j) → Other j
+      stored j (inl is) = inl is
+      stored j (inr part) = inr (inl part)
 
       other_at : (j : ℕ) → j < length outputs → MayStand course header sheet j b ⊎ Wrote j → Other j
-      other_at j less (inl may) = held j (may_hold j less may)
+      other_at j less (inl may) = stored j (may_hold j less may)
       other_at j less (inr wrote) = inr (inr (whole j less wrote))
 
       others : (j : ℕ) → j ≢ k → Other j
-      others j other = elim (cases_lt j (plates bare)) [
+      others j other = elim (cases_lt j (plates outline)) [
         | inl less ↦ other_at j (omega (arith, less, many)) (breaks.each j less other)
         | inr more ↦ inl (breaks.others j (omega arith))
       ]
@@ -161,7 +161,7 @@ module _ (inputs outputs : List (List ℕ)) (report : List ℕ) (trays : List Tr
       kept_else j (inr wrote) = wrote_kept j wrote
 
       kept_other : (j : ℕ) → j ≢ k → RackKept (rack_names target j) (rack_at a j) (rack_at b j)
-      kept_other j other = elim (cases_lt j (plates bare)) [
+      kept_other j other = elim (cases_lt j (plates outline)) [
         | inl less ↦ kept_else j (breaks.each j less other)
         | inr more ↦ kept_is (rack_names target j) (rack_at a j) (rack_at b j) (breaks.others j (omega arith))
       ]
@@ -175,7 +175,7 @@ module _ (inputs outputs : List (List ℕ)) (report : List ℕ) (trays : List Tr
       pub breaks_keep : KeepsRacks target a b
       breaks_keep = record {
         keeps = λ j. (kept_each j).keeps;
-        told = λ j. (kept_each j).told;
+        reported = λ j. (kept_each j).reported;
         asked = λ j. (kept_each j).asked;
         beyond = λ j more. breaks.others j (omega (arith, more, many));
       }

@@ -2,7 +2,7 @@
 -- after the call.
 use Rattle.std.specs.Prelude.{◌≡◌, ◌≢◌, ◌⊎◌, ℕ, ◌<◌, ◌≤◌, IsTrue, List, length, Option, Some, None}
 use Rattle.std.specs.Prelude.{Ok}
-use Rattle.outside.specs.Causes.{Rose, AsksPrefix}
+use Rattle.outside.specs.ErrorCases.{Rose, AsksPrefix}
 use Rattle.outside.specs.Tray.{TrayState}
 use Rattle.outside.specs.Rack.{RackState}
 use Rattle.job_reader.specs.declared.job.Job.{Job}
@@ -10,20 +10,20 @@ use Rattle.page_model.specs.declared.parts.PageParts.{PageParts}
 use Rattle.page_model.specs.Tints.{trapped_planes}
 use Rattle.page_files.specs.Writing.{WritesAll}
 use Rattle.pgm_plates.specs.declared.plate.Plate.{Plate as PlateRead}
-use Rattle.refusals.specs.declared.refusal.Refusal.TheVariants.{Memory, Read, Write}
-use Rattle.refusals.specs.Refusals.{line_of}
-use Rattle.refusals.specs.Statuses.{done, usage, job_refused, page_refused, not_read}
-use Rattle.refusals.specs.Statuses.{not_written, out_of_memory}
-use Rattle.refusals.specs.Telling.{KeepsFiles, TellsText}
+use Rattle.common_errors.specs.declared.common.CommonError.TheVariants.{Memory, Read, Write}
+use Rattle.common_errors.specs.CommonErrors.{line_of}
+use Rattle.common_errors.specs.Statuses.{done, usage, job_refused, page_refused, not_read}
+use Rattle.common_errors.specs.Statuses.{not_written, out_of_memory}
+use Rattle.common_errors.specs.Telling.{KeepsFiles, TellsText}
 use Rattle.sheet_files.specs.Gathering.{AsksTwice, FailsAgain, FailsToRead, HasChanged}
 use Rattle.sheet_files.specs.Gathering.{IsMadeSheet, RefusesFiles, TakesTrays, TakesTwice}
-use Rattle.sheet_files.specs.Inputs.{SheetInputs, held_by, sheet_of}
-use Rattle.sheet_files.specs.Stops.{line_of_stop, status_of_stop}
+use Rattle.sheet_files.specs.Inputs.{SheetInputs, stored_by, sheet_of}
+use Rattle.sheet_files.specs.Errors.{line_of_error, status_of_error}
 use Rattle.plate_rows.specs.Trays.{IsCalm, tray_at}
 use Rattle.sheet_files.specs.Trays.{AllTell}
 use Rattle.sheet_files.specs.Verdicts.{IsSheetVerdict, Accepted, Refused}
-use Rattle.sheet_files.specs.declared.stop.TrapsheetError.{TrapsheetError}
-use Rattle.sheet_files.specs.declared.stop.TrapsheetError.TheVariants.{Changed, Common}
+use Rattle.sheet_files.specs.declared.error.TrapsheetError.{TrapsheetError}
+use Rattle.sheet_files.specs.declared.error.TrapsheetError.TheVariants.{Changed, Common}
 use Rattle.trapsheet_cli.specs.Endings.{AsksAllTwice, sheet_files}
 use Rattle.sheet_files.specs.Reporting.{sheet_report}
 use Rattle.page_files.specs.Locality.{ChangesNearEdges}
@@ -70,7 +70,7 @@ pub record Success (words : List (List ℕ)) (trays trays' : List TrayState)
   pub files : (order : SheetWords) → Mean words order → status ≡ done
       → Writes order trays racks racks'
   pub silent : (order : SheetWords) → Mean words order → status ≡ done → (k : ℕ)
-      → IsTrue (rack_at racks k).tells → (rack_at racks' k).told ≡ (rack_at racks k).told
+      → IsTrue (rack_at racks k).tells → (rack_at racks' k).reported ≡ (rack_at racks k).reported
   pub begun : (order : SheetWords) → Mean words order → status ≡ done → (k : ℕ)
       → k < length (sources_of order).inputs → AsksTwice (sources_of order) trays trays' k
 
@@ -89,23 +89,23 @@ pub record Usage (words : List (List ℕ)) (trays trays' : List TrayState)
 -- handed to `begin`, that no fault of a tray was passed over, and the line. No file is created or
 -- changed.
 pub record RefusesInput (order : SheetWords) (trays trays' : List TrayState)
-    (racks racks' : List RackState) (status : ℕ) (stop : TrapsheetError) : Type 0 where
-  pub status_is : status ≡ status_of_stop stop
-  pub files : RefusesFiles (sources_of order) trays trays' stop
-  pub line : TellsText (line_of_stop stop) (rack_at racks 0) (rack_at racks' 0)
+    (racks racks' : List RackState) (status : ℕ) (error : TrapsheetError) : Type 0 where
+  pub status_is : status ≡ status_of_error error
+  pub files : RefusesFiles (sources_of order) trays trays' error
+  pub line : TellsText (line_of_error error) (rack_at racks 0) (rack_at racks' 0)
   pub kept : (k : ℕ) → KeepsFiles (rack_at racks k) (rack_at racks' k)
 
 -- A command stopped while its plates were read again, at a sheet that was made: of each plate a
 -- prefix of its bytes stands, or it was not begun; no report is. Then the line of the stop was
 -- printed on the first rack, and nothing else was changed.
 pub record StopsInParts (order : SheetWords) (trays : List TrayState)
-    (racks racks' : List RackState) (stop : TrapsheetError) : Type 0 where
+    (racks racks' : List RackState) (error : TrapsheetError) : Type 0 where
   pub sheet : PageParts
   pub made : IsMadeSheet (sources_of order) trays sheet
   pub between : List RackState
   pub parts : HoldParts (targets_of order) (trapped_planes sheet) racks between
   pub silent : KeepsRacks (targets_of order) racks between
-  pub line : TellsText (line_of_stop stop) (rack_at between 0) (rack_at racks' 0)
+  pub line : TellsText (line_of_error error) (rack_at between 0) (rack_at racks' 0)
   pub files : KeepsFiles (rack_at between 0) (rack_at racks' 0)
   pub others : (k : ℕ) → k ≢ 0 → rack_at racks' k ≡ rack_at between k
 
@@ -116,19 +116,19 @@ pub record Changes (order : SheetWords) (trays trays' : List TrayState)
   pub changed : HasChanged (sources_of order) plate trays trays'
   pub stops : StopsInParts order trays racks racks' (Changed plate)
 
--- Status 3 and 4 come only where the verdict is a refusal of that status, or, status 4, where a
--- plate has changed whose tray does not tell its file. Where the verdict is a refusal, and no
+-- Status 3 and 4 come only where the verdict is a error of that status, or, status 4, where a
+-- plate has changed whose tray does not tell its file. Where the verdict is a error, and no
 -- tray's count rose, its status comes, or 7.
 pub record RefusedInput (words : List (List ℕ)) (trays trays' : List TrayState)
     (racks racks' : List RackState) (status : ℕ) : Type 0 where
   pub only : (order : SheetWords) → Mean words order
       → (status ≡ job_refused) ⊎ (status ≡ page_refused)
-      → ((stop : TrapsheetError) × RefusesInput order trays trays' racks racks' status stop)
+      → ((error : TrapsheetError) × RefusesInput order trays trays' racks racks' status error)
       ⊎ ((plate : ℕ) × Changes order trays trays' racks racks' status plate)
-  pub always : (order : SheetWords) (stop : TrapsheetError) → Mean words order → Tell order trays
-      → IsSheetVerdict (held_by trays (sources_of order)) (sources_of order).names (Refused stop)
+  pub always : (order : SheetWords) (error : TrapsheetError) → Mean words order → Tell order trays
+      → IsSheetVerdict (stored_by trays (sources_of order)) (sources_of order).names (Refused error)
       → NoTrayRose trays trays'
-      → (status ≡ status_of_stop stop) ⊎ (status ≡ out_of_memory)
+      → (status ≡ status_of_error error) ⊎ (status ≡ out_of_memory)
 
 -- The first reading failed at a file. What was read before has no fault, no file is created or
 -- changed, and each tray was asked for a prefix of its own files.
@@ -153,7 +153,7 @@ pub record FailsLater (order : SheetWords) (trays trays' : List TrayState)
 -- read twice, but of a sheet that no strips of one height can be cut of.
 pub record ReadFault (words : List (List ℕ)) (trays trays' : List TrayState)
     (racks racks' : List RackState) (status : ℕ) : Type 0 where
-  pub cause : status ≡ not_read
+  pub reason : status ≡ not_read
       → (k : ℕ) × Rose (tray_at trays k).faults (tray_at trays' k).faults
   pub breaks : (order : SheetWords) → Mean words order → status ≡ not_read
       → ((file : Option ℕ) × FailsAtFirst order trays trays' racks racks' file)
@@ -192,7 +192,7 @@ pub record FailsToWrite (order : SheetWords) (trays : List TrayState)
 -- of its own files alone, and those of no plate are as before.
 pub record WriteFault (words : List (List ℕ)) (trays : List TrayState)
     (racks racks' : List RackState) (status : ℕ) : Type 0 where
-  pub cause : status ≡ not_written
+  pub reason : status ≡ not_written
       → (k : ℕ) × Rose (rack_at racks k).faults (rack_at racks' k).faults
   pub breaks : (order : SheetWords) → Mean words order → status ≡ not_written
       → FailsToWrite order trays racks racks'
@@ -213,19 +213,19 @@ LeavesFiles racks racks' status = status ≢ done → status ≢ page_refused �
 -- another rack.
 pub record FaultLine (racks racks' : List RackState) (status : ℕ) : Type 0 where
   pub stopped : status ≢ done → status ≢ usage → status ≢ not_written
-      → (stop : TrapsheetError) × (status ≡ status_of_stop stop)
-      × TellsText (line_of_stop stop) (rack_at racks 0) (rack_at racks' 0)
+      → (error : TrapsheetError) × (status ≡ status_of_error error)
+      × TellsText (line_of_error error) (rack_at racks 0) (rack_at racks' 0)
   pub memory : status ≡ out_of_memory
       → TellsText (line_of Memory) (rack_at racks 0) (rack_at racks' 0)
   pub elsewhere : (k : ℕ) → k ≢ 0 → IsTrue (rack_at racks k).tells
-      → (rack_at racks' k).told ≡ (rack_at racks k).told
+      → (rack_at racks' k).reported ≡ (rack_at racks k).reported
 
 -- Where the job and the plates make a sheet, each sample whose written value differs from the one
 -- that was read is near the edge that it answers to.
 abbrev pub Locality : List (List ℕ) → List TrayState → Type 0
 Locality words trays = (order : SheetWords) (job : Job) (read : List PlateRead) (sheet : PageParts)
     → Mean words order → Tell order trays
-    → SheetInputs (held_by trays (sources_of order)) (length (sources_of order).names) job read
+    → SheetInputs (stored_by trays (sources_of order)) (length (sources_of order).names) job read
     → sheet_of job read (sources_of order).names ≡ Ok sheet → ChangesNearEdges sheet read
 
 -- Where the verdict accepts a sheet and no count rose, the status is 0 or 7. Every status is 0 or
@@ -233,7 +233,7 @@ Locality words trays = (order : SheetWords) (job : Job) (read : List PlateRead) 
 pub record Completeness (words : List (List ℕ)) (trays trays' : List TrayState)
     (racks racks' : List RackState) (status : ℕ) : Type 0 where
   pub sheet : (order : SheetWords) (sheet : PageParts) → Mean words order → Tell order trays
-      → IsSheetVerdict (held_by trays (sources_of order)) (sources_of order).names
+      → IsSheetVerdict (stored_by trays (sources_of order)) (sources_of order).names
       (Accepted sheet) → NoTrayRose trays trays' → NoRackRose racks racks'
       → (status ≡ done) ⊎ (status ≡ out_of_memory)
   pub statuses : (status ≡ done) ⊎ ((usage ≤ status) × (status ≤ out_of_memory))

@@ -8,15 +8,15 @@ use Rattle.page_model.specs.Tints.{trapped_planes}
 use Rattle.page_model.specs.declared.parts.PageParts.{PageParts}
 use Rattle.page_files.specs.Files.{Written}
 use Rattle.page_files.specs.Writing.{WritesAll}
-use Rattle.refusals.specs.declared.refusal.Refusal.TheVariants.{Memory, Read, Write}
-use Rattle.refusals.specs.Statuses.{done, usage}
-use Rattle.refusals.specs.Telling.{KeepsFiles, TellsText}
+use Rattle.common_errors.specs.declared.common.CommonError.TheVariants.{Memory, Read, Write}
+use Rattle.common_errors.specs.Statuses.{done, usage}
+use Rattle.common_errors.specs.Telling.{KeepsFiles, TellsText}
 use Rattle.sheet_files.specs.Gathering.{AsksTwice, FailsAgain, FailsToRead, HasChanged}
 use Rattle.sheet_files.specs.Gathering.{IsMadeSheet, RefusesFiles, TakesTrays, TakesTwice}
-use Rattle.sheet_files.specs.Stops.{RefusesSheet}
+use Rattle.sheet_files.specs.Errors.{RefusesSheet}
 use Rattle.plate_rows.specs.Trays.{IsCalm}
-use Rattle.sheet_files.specs.declared.stop.TrapsheetError.{TrapsheetError}
-use Rattle.sheet_files.specs.declared.stop.TrapsheetError.TheVariants.{Changed, Common}
+use Rattle.sheet_files.specs.declared.error.TrapsheetError.{TrapsheetError}
+use Rattle.sheet_files.specs.declared.error.TrapsheetError.TheVariants.{Changed, Common}
 use Rattle.plate_rows.specs.Racks.{rack_at}
 use Rattle.sheet_files.specs.Reporting.{sheet_report}
 use Rattle.sheet_files.specs.Racks.{BreaksSheet, HoldParts, KeepsRacks, rack_files}
@@ -58,7 +58,7 @@ pub data Carries (source : Sources) (target : Targets) (trays trays' : List Tray
       → ((k : ℕ) → k < length target.outputs
       → WritesAll (sheet_files target sheet k) (rack_at racks k) (rack_at racks' k))
       → Carries source target trays trays' racks racks' result
-  refused : (stop : TrapsheetError) → result ≡ Err stop → RefusesFiles source trays trays' stop
+  refused : (error : TrapsheetError) → result ≡ Err error → RefusesFiles source trays trays' error
       → TakesTrays source trays trays' → racks' ≡ racks
       → Carries source target trays trays' racks racks' result
   unread : (file : Option ℕ) → result ≡ Err (Common (Read file))
@@ -91,15 +91,15 @@ pub record CarriesOut (order : SheetWords) (trays trays' : List TrayState)
   pub answer : Carries (sources_of order) (targets_of order) trays trays' racks racks' result
 
 -- The line of a stop is printed on the first rack.
-pub record RefusesFirst (stop : TrapsheetError) (before after : List RackState)
+pub record RefusesFirst (error : TrapsheetError) (before after : List RackState)
     (status : ℕ) : Type 0 where
-  pub first : RefusesSheet stop (rack_at before 0) (rack_at after 0) status
+  pub first : RefusesSheet error (rack_at before 0) (rack_at after 0) status
   pub others : (k : ℕ) → k ≢ 0 → rack_at after k ≡ rack_at before k
 
 -- the status, and the line of the stop where the work is not done
 abbrev pub Closes : Result (Unit {0}) TrapsheetError → List RackState → List RackState → ℕ → Type 0
 Closes (Ok x) before after status = (after ≡ before) × (status ≡ done)
-Closes (Err stop) before after status = RefusesFirst stop before after status
+Closes (Err error) before after status = RefusesFirst error before after status
 
 -- A sheet is read and put out, and the command is closed.
 pub record EndsSheet (order : SheetWords) (trays trays' : List TrayState)

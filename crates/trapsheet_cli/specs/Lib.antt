@@ -1,5 +1,5 @@
 pub mod Words
-pub mod Held
+pub mod Stored
 pub mod Files
 pub mod Text
 pub mod Strips

@@ -1,5 +1,5 @@
 ghost use Rattle.std.specs.Prelude.{◌≡◌, ◌≤◌, length, map};
-ghost use Rattle.sheet_geometry.specs.Bare.{IsBareSheet, bare_sheet};
+ghost use Rattle.sheet_geometry.specs.Outline.{IsOutlineSheet, outline_sheet};
 ghost use Rattle.sheet_geometry.specs.Planned.{IsPlan};
 ghost use Rattle.page_model.specs.declared.parts.PageParts.{PageParts};
 ghost use Rattle.page_model.specs.Page.{plates};
@@ -8,7 +8,7 @@ ghost use Rattle.sheet_files.specs.Judging.{JudgesSheet};
 ghost use Rattle.sheet_stream.specs.Second.{course_of};
 ghost use Rattle.trapsheet_cli.specs.Endings.{CarriesOut, EndsSheet, PutsOut, RefusesFirst};
 ghost use Rattle.sheet_files.specs.Reporting.{sheet_report};
-ghost use Rattle.trapsheet_cli.specs.Held.{AreInputs, IsWithin, order_in};
+ghost use Rattle.trapsheet_cli.specs.Stored.{AreInputs, IsWithin, order_in};
 ghost use Rattle.trapsheet_cli.specs.Planned.{PutsPlanned, PutsWhole};
 ghost use Rattle.sheet_files.specs.Streaming.{StreamsBy, StreamsOut};
 ghost use Rattle.sheet_files.specs.Holding.{CanHold};
@@ -18,28 +18,28 @@ ghost use Rattle.trapsheet_cli.specs.Files.{sources_of, targets_of};
 ghost use Rattle.sheet_geometry.specs.Sheets.{IsSheet};
 ghost use Rattle.page_model.specs.Limits.{most_plates};
 
-use sheet_geometry::budget::Budget;
-use sheet_geometry::plan::{Plan, Rulers};
+use crate::words::SheetArgs;
+use common_errors::common::CommonError;
+use common_errors::statuses::DONE;
 use outside::rack::Rack;
 use outside::tray::Tray;
 use page_model::parts::PageParts;
 use plain_words::files::{plate_inputs, plate_names, plate_outputs};
 use plate_rows::laws::no_change;
-use refusals::refusal::Refusal;
-use refusals::statuses::DONE;
+use sheet_files::error::TrapsheetError;
+use sheet_files::holding::hold;
 use sheet_files::judging::judge_sheet;
 use sheet_files::laws::sheet_is_reread;
-use sheet_files::planning::PlannedSheet;
-use sheet_files::stop::TrapsheetError;
-use sheet_files::telling::refuse_sheet;
-use sheet_files::holding::hold;
 use sheet_files::outcome::{SheetOutcome, outcome_of};
+use sheet_files::planning::PlannedSheet;
 use sheet_files::streaming::stream;
+use sheet_files::telling::refuse_sheet;
 use sheet_files::windows::rulers_for;
 use sheet_files::writing::write_sheet;
+use sheet_geometry::budget::Budget;
+use sheet_geometry::plan::{Plan, Rulers};
 use std::alloc::Global;
 use std::thread::Threads;
-use crate::words::SheetArgs;
 
 // Runs the command on a sheet, and returns the status that it ends with.
 pub(crate) fn run_order<H: Threads + Sync, T: Tray + Send, R: Rack>(
@@ -58,16 +58,16 @@ pub(crate) fn run_order<H: Threads + Sync, T: Tray + Send, R: Rack>(
 {
     match carry_out(rt, alloc, order, budget, trays, racks) {
         Ok(()) => DONE,
-        Err(stop) => refuse_first(racks, &stop),
+        Err(error) => refuse_first(racks, &error),
     }
 }
 
 // Prints the line of a stop on the first rack, and returns its status.
-fn refuse_first<R: Rack>(racks: &mut [R], stop: &TrapsheetError) -> u8
+fn refuse_first<R: Rack>(racks: &mut [R], error: &TrapsheetError) -> u8
     requires { 1 ≤ length racks.old }
-    ensures { RefusesFirst stop.now (map R.state racks.old) (map R.state racks.new) result }
+    ensures { RefusesFirst error.now (map R.state racks.old) (map R.state racks.new) result }
 {
-    refuse_sheet(&mut racks[0], stop)
+    refuse_sheet(&mut racks[0], error)
 }
 
 // Checks the sheet, reads it once more, traps it and writes its files.
@@ -86,7 +86,7 @@ fn carry_out<H: Threads + Sync, T: Tray + Send, R: Rack>(
         (map R.state racks.old) (map R.state racks.new) result }
 {
     let Ok(inputs) = plate_inputs(alloc, order.plates) else {
-        return Err(TrapsheetError::Common(Refusal::Memory));
+        return Err(TrapsheetError::Common(CommonError::Memory));
     };
     carry_on(rt, alloc, order, budget, inputs.as_slice(), trays, racks)
 }
@@ -112,7 +112,7 @@ fn carry_on<H: Threads + Sync, T: Tray + Send, R: Rack>(
     sheet_is_reread();
     match judge(rt, alloc, order, budget, inputs, trays) {
         Ok(planned) => put_planned(rt, alloc, order, budget, &planned, inputs, trays, racks),
-        Err(stop) => Err(stop),
+        Err(error) => Err(error),
     }
 }
 
@@ -132,7 +132,7 @@ fn judge<H: Threads + Sync, T: Tray + Send>(
         (map T.state trays.new) result }
 {
     let Ok(names) = plate_names(alloc, order.plates) else {
-        return Err(TrapsheetError::Common(Refusal::Memory));
+        return Err(TrapsheetError::Common(CommonError::Memory));
     };
     judge_sheet(
         rt,
@@ -160,20 +160,20 @@ fn put_planned<H: Threads + Sync, T: Tray, R: Rack>(
     requires within { IsWithin order.now }
     requires trays { most_plates ≤ length trays.old }
     requires racks { most_plates ≤ length racks.old }
-    requires valid { IsBareSheet planned.now.bare }
-    requires blank { bare_sheet planned.now.bare ≡ planned.now.bare }
-    requires plan { IsPlan planned.now.bare budget.now planned.now.plan }
-    requires inputs { length inputs.now ≡ plates planned.now.bare }
-    requires count { length order.now.plates.now ≡ plates planned.now.bare }
+    requires valid { IsOutlineSheet planned.now.outline }
+    requires blank { outline_sheet planned.now.outline ≡ planned.now.outline }
+    requires plan { IsPlan planned.now.outline budget.now planned.now.plan }
+    requires inputs { length inputs.now ≡ plates planned.now.outline }
+    requires count { length order.now.plates.now ≡ plates planned.now.outline }
     ensures { PutsPlanned (targets_of (order_in order.now)) (map (λ file. file.now) inputs.now)
-        planned.now.bare (map T.state trays.old) (map T.state trays.new)
+        planned.now.outline (map T.state trays.old) (map T.state trays.new)
         (map R.state racks.old) (map R.state racks.new) result }
 {
-    let bare = &planned.bare;
+    let outline = &planned.outline;
     match planned.plan {
         Plan::Strips(rulers) => {
-            let rulers = rulers_for(bare, rulers);
-            put_strips(rt, alloc, order, bare, &rulers, inputs, trays, racks)
+            let rulers = rulers_for(outline, rulers);
+            put_strips(rt, alloc, order, outline, &rulers, inputs, trays, racks)
         }
         Plan::Windows(_rulers) => put_whole(rt, alloc, order, planned, inputs, trays, racks),
         Plan::Page => put_whole(rt, alloc, order, planned, inputs, trays, racks),
@@ -185,7 +185,7 @@ fn put_strips<H: Threads + Sync, T: Tray, R: Rack>(
     rt: &H,
     alloc: Global,
     order: &SheetArgs<'_>,
-    bare: &PageParts,
+    outline: &PageParts,
     rulers: &Rulers,
     inputs: &[&str],
     trays: &mut [T],
@@ -194,16 +194,16 @@ fn put_strips<H: Threads + Sync, T: Tray, R: Rack>(
     requires within { IsWithin order.now }
     requires trays { most_plates ≤ length trays.old }
     requires racks { most_plates ≤ length racks.old }
-    requires can { StreamsBy bare.now rulers.now }
-    requires inputs { length inputs.now ≡ plates bare.now }
-    requires count { length order.now.plates.now ≡ plates bare.now }
+    requires can { StreamsBy outline.now rulers.now }
+    requires inputs { length inputs.now ≡ plates outline.now }
+    requires count { length order.now.plates.now ≡ plates outline.now }
     ensures { let target = targets_of (order_in order.now) in
         let course = course_of (map (λ file. file.now) inputs.now) target.outputs (map T.state trays.old) (map R.state racks.old) in
-        StreamsOut course target.report bare.now (map T.state trays.new) (map R.state racks.new)
+        StreamsOut course target.report outline.now (map T.state trays.new) (map R.state racks.new)
         result }
 {
     let Ok(outputs) = plate_outputs(alloc, order.plates) else {
-        return Err(TrapsheetError::Common(Refusal::Memory));
+        return Err(TrapsheetError::Common(CommonError::Memory));
     };
     stream(
         rt,
@@ -214,7 +214,7 @@ fn put_strips<H: Threads + Sync, T: Tray, R: Rack>(
         outputs.as_slice(),
         order.report,
         order.workers,
-        bare,
+        outline,
         rulers,
     )
 }
@@ -232,18 +232,18 @@ fn put_whole<H: Threads + Sync, T: Tray, R: Rack>(
     requires within { IsWithin order.now }
     requires trays { most_plates ≤ length trays.old }
     requires racks { most_plates ≤ length racks.old }
-    requires valid { IsBareSheet planned.now.bare }
-    requires blank { bare_sheet planned.now.bare ≡ planned.now.bare }
-    requires can { CanHold planned.now.bare planned.now.plan }
-    requires inputs { length inputs.now ≡ plates planned.now.bare }
-    requires count { length order.now.plates.now ≡ plates planned.now.bare }
+    requires valid { IsOutlineSheet planned.now.outline }
+    requires blank { outline_sheet planned.now.outline ≡ planned.now.outline }
+    requires can { CanHold planned.now.outline planned.now.plan }
+    requires inputs { length inputs.now ≡ plates planned.now.outline }
+    requires count { length order.now.plates.now ≡ plates planned.now.outline }
     ensures { PutsWhole (targets_of (order_in order.now)) (map (λ file. file.now) inputs.now)
-        planned.now.bare (map T.state trays.old) (map T.state trays.new)
+        planned.now.outline (map T.state trays.old) (map T.state trays.new)
         (map R.state racks.old) (map R.state racks.new) result }
 {
-    match hold(alloc, trays, inputs, &planned.bare) {
+    match hold(alloc, trays, inputs, &planned.outline) {
         Ok(parts) => put_out(rt, alloc, order, parts, planned.plan, racks),
-        Err(stop) => Err(stop),
+        Err(error) => Err(error),
     }
 }
 
@@ -265,7 +265,7 @@ fn put_out<H: Threads + Sync, R: Rack>(
         (map R.state racks.old) (map R.state racks.new) result }
 {
     let Ok(outcome) = outcome_of(rt, alloc, parts, plan, order.workers) else {
-        return Err(TrapsheetError::Common(Refusal::Memory));
+        return Err(TrapsheetError::Common(CommonError::Memory));
     };
     put_outcome(alloc, order, &outcome, racks)
 }
@@ -286,7 +286,7 @@ fn put_outcome<R: Rack>(
         (map R.state racks.old) (map R.state racks.new) result }
 {
     let Ok(outputs) = plate_outputs(alloc, order.plates) else {
-        return Err(TrapsheetError::Common(Refusal::Memory));
+        return Err(TrapsheetError::Common(CommonError::Memory));
     };
     write_sheet(
         racks,

@@ -4,17 +4,17 @@ ghost use Rattle.trapsheet_cli.specs.Endings.{EndsWords, RefusesWords, TellsUsag
 ghost use Rattle.page_model.specs.Limits.{most_plates};
 
 use crate::run::run_order;
-use sheet_geometry::budget::Budget;
+use crate::words::read_words;
+use common_errors::line::Line;
+use common_errors::statuses::USAGE;
+use common_errors::telling::tell_line;
 use outside::rack::Rack;
 use outside::tray::Tray;
-use refusals::line::Line;
-use refusals::statuses::USAGE;
-use refusals::telling::tell_line;
 use sheet_files::laws::one_sheet_verdict;
 use sheet_files::windows::WINDOW;
+use sheet_geometry::budget::Budget;
 use std::alloc::Global;
 use std::thread::Threads;
-use crate::words::read_words;
 
 /// Traps a sheet of any size, and returns the status that the program exits with.
 ///
@@ -33,7 +33,7 @@ use crate::words::read_words;
 /// The status is 0 if the work is done; 2 if the words are no command; 3 if the job has a fault or lacks the details of
 /// a plate's colorant; 4 if a plate's file has a fault, or the plates do not make a sheet that can be trapped, or a
 /// plate is not the same when it is begun once more; 5 if a read failed; 6 if a write failed; and 7 if memory ran out.
-/// Each refusal prints one line that names the cause. No file is created before all memory is allocated and each plate
+/// Each error prints one line that names the cause. No file is created before all memory is allocated and each plate
 /// has its header again.
 pub fn trapsheet_main<H: Threads + Sync, T: Tray + Send, R: Rack + Send>(
     rt: &H,

@@ -2,7 +2,7 @@ ghost use Rattle.std.specs.Prelude.{◌≡◌, ◌≤◌, IfSome, map, option_ma
 ghost use Rattle.std.specs.Option.{ForSome};
 ghost use Rattle.std.specs.Str.{bytes_eq};
 ghost use Rattle.plain_words.specs.Parts.{parts_of};
-ghost use Rattle.trapsheet_cli.specs.Held.{IsWithin, order_in};
+ghost use Rattle.trapsheet_cli.specs.Stored.{IsWithin, order_in};
 ghost use Rattle.trapsheet_cli.specs.Words.{order_of, order_with as order_spec, plates_of, reads_written as reads_spec};
 ghost use Rattle.page_model.specs.Limits.{most_workers};
 

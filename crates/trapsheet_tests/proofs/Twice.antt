@@ -37,29 +37,29 @@ module _ (plates : List OpenPlate) (next : NextRows) (old new : List Plane) (a b
   more_long = new_long plates next.kept new k ∙ ap (λ (n : ℕ). n - next.kept) (reads.0 k less).tints.full
 
   pub more_read : (more : ℕ) → next.done + wanted next.kept old k + more ≤ samples_of (open_at plates k).header → IsReadTo (open_at plates k) (next.done + wanted next.kept old k) more (tray_at b k)
-  more_read more room =
+  more_read more workspace =
       let long = more_long in
       record {
         name = to.name;
         start = to.start;
         samples = to.samples ++ new_rows plates next.kept new k;
-        read = reads.1.each k less Sheet to.name to.start to.samples to.read to.count (omega (arith, long, room));
+        read = reads.1.each k less Sheet to.name to.start to.samples to.read to.count (omega (arith, long, workspace));
         count = length-append to.samples (new_rows plates next.kept new k) ∙ ap (λ (n : ℕ). n + length (new_rows plates next.kept new k)) to.count ∙ ap (λ (n : ℕ). next.done + n) long;
-        room = room;
+        workspace = workspace;
       }
 
   pub still_begun : next.done + wanted next.kept old k ≤ samples_of (open_at plates k).header → IsTrue (tray_at b k).begun
-  still_begun room = (more_read 0 (omega (arith, room))).read.rows.begun
+  still_begun workspace = (more_read 0 (omega (arith, workspace))).read.rows.begun
 
 -- nothing is read of a plate that is begun
 pub none_read : (names : List (List ℕ)) (headers : List Header) (plates : List OpenPlate) (a b : List TrayState) (k more : ℕ) → k < length names → BeginsPlates names headers plates a b (Ok tt) → more ≤ samples_of (header_at headers k) → IsReadTo (open_at plates k) 0 more (tray_at b k)
-none_read names headers plates a b k more less begins room = record {
+none_read names headers plates a b k more less begins workspace = record {
   name = name_at names k;
   start = tray_at a k;
   samples = [];
   read = (begins.each k less).read;
   count = refl;
-  room = (let same = ap samples_of (begins.each k less).same in omega (arith, same, room));
+  workspace = (let same = ap samples_of (begins.each k less).same in omega (arith, same, workspace));
 }
 
 -- its header

@@ -3,12 +3,12 @@ mod failing;
 mod words;
 mod worked;
 
-use sheet_geometry::budget::Budget;
 use lists::list::List;
 use lists::names::OutOfMemory;
 use outside::mem_file::FileList;
 use outside::mem_rack::MemRack;
 use outside::mem_tray::MemTray;
+use sheet_geometry::budget::Budget;
 use std::alloc::{AllocError, Global};
 use std::process::Abort;
 use std::thread::Threads;
@@ -75,7 +75,7 @@ struct Case<'a> {
 #[derive(Clone, Copy)]
 struct Wanted<'a> {
     status: u8,
-    told: &'a str,
+    reported: &'a str,
     plates: &'a [&'a [u8]],
     report: Option<&'a [u8]>,
 }
@@ -200,14 +200,14 @@ fn holds(rack: &MemRack, device: usize, wanted: Wanted<'_>) -> bool {
 }
 
 // Whether the first rack tells this text, and the others nothing.
-fn tells(rack: &MemRack, device: usize, told: &str) -> bool {
-    let text = if device == 0 { told } else { "" };
-    rack.told() == text.as_bytes()
+fn tells(rack: &MemRack, device: usize, reported: &str) -> bool {
+    let text = if device == 0 { reported } else { "" };
+    rack.reported() == text.as_bytes()
 }
 
 fn are_left_so(racks: &[MemRack], wanted: Wanted<'_>) -> bool {
     for (device, rack) in racks.iter().enumerate() {
-        if !holds(rack, device, wanted) || !tells(rack, device, wanted.told) {
+        if !holds(rack, device, wanted) || !tells(rack, device, wanted.reported) {
             return false;
         }
     }

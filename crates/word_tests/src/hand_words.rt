@@ -49,7 +49,7 @@ fn numbers_have_ten_digits_at_most(rt: HostRuntime) -> Result<(), Fail> {
 }
 
 #[test]
-fn names_and_texts_are_told_apart(rt: HostRuntime) -> Result<(), Fail> {
+fn names_and_texts_are_reported_apart(rt: HostRuntime) -> Result<(), Fail> {
     assert!(rt; is_name(b"Spot-1"));
     assert!(rt; !is_name(b"Spot 1"));
     assert!(rt; are_distinct(&["a", "b", "c"]));

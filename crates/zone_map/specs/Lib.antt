@@ -1,4 +1,4 @@
-pub mod Room
+pub mod Workspace
 pub mod PagePoints
 pub mod Subpaths
 pub mod Tallies

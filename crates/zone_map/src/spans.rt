@@ -20,9 +20,9 @@ pub struct SpanBuf {
 
 impl Model for SpanBuf {
     ghost use Rattle.std.specs.Prelude.{◌≡◌, ◌+◌, length, vec_capacity};
-    ghost use Rattle.zone_map.specs.Room.{Room};
+    ghost use Rattle.zone_map.specs.Workspace.{Workspace};
 
-    ghost Value = { Room };
+    ghost Value = { Workspace };
 
     ghost view = { λ s. record {
       wide = s.width;

@@ -15,8 +15,13 @@ use std::marker::Brand;
 use std::process::Abort;
 use std::sync::ledger::{Blank, Ledger};
 
-/// Random samples, of which `bare` in eight are without ink.
-fn random_tints(alloc: Global, count: usize, seed: u32, bare: u32) -> Result<List<u16>, AllocError>
+/// Random samples, of which `outline` in eight are without ink.
+fn random_tints(
+    alloc: Global,
+    count: usize,
+    seed: u32,
+    outline: u32,
+) -> Result<List<u16>, AllocError>
     ensures count { IfOk result (λ tints. length tints ≡ count) }
     ensures below { IfOk result (λ tints. All (λ tint. tint ≤ 255) tints) }
 {
@@ -24,7 +29,7 @@ fn random_tints(alloc: Global, count: usize, seed: u32, bare: u32) -> Result<Lis
     let mut tints = Vec::new(alloc);
     for _ in 0..count {
         state = state.wrapping_mul(1_664_525).wrapping_add(1_013_904_223);
-        let inked = (state >> 16) % 8 >= bare;
+        let inked = (state >> 16) % 8 >= outline;
         tints.push(if inked { 255 } else { 0 })?;
     }
     Ok(List::from_vec(tints))
@@ -35,7 +40,7 @@ fn random_plane(
     width: u32,
     height: u32,
     seed: u32,
-    bare: u32,
+    outline: u32,
 ) -> Result<Plane, AllocError>
     requires some_width { 1 ≤ width }
     requires narrow { width ≤ 40 }
@@ -46,7 +51,7 @@ fn random_plane(
     ensures tall { IfOk result (λ plane. plane.height ≡ height) }
     ensures deep { IfOk result (λ plane. plane.maxval ≡ 255) }
 {
-    let tints = random_tints(alloc, (width * height) as usize, seed, bare)?;
+    let tints = random_tints(alloc, (width * height) as usize, seed, outline)?;
     Ok(Plane {
         width,
         height,
@@ -61,7 +66,7 @@ fn random_planes(
     width: u32,
     height: u32,
     plates: u32,
-    bare: u32,
+    outline: u32,
 ) -> Result<PlaneList, AllocError>
     requires some_width { 1 ≤ width }
     requires narrow { width ≤ 40 }
@@ -76,7 +81,7 @@ fn random_planes(
 {
     let mut planes = Vec::new(alloc);
     for c in 0..plates {
-        planes.push(random_plane(alloc, width, height, 977 * c + width, bare)?)?;
+        planes.push(random_plane(alloc, width, height, 977 * c + width, outline)?)?;
     }
     Ok(List::from_vec(planes))
 }
@@ -166,7 +171,7 @@ fn count_at_risk<L: Ledger>(
 }
 
 /// Whether the sheet says of each sample of a row of plate c whether the plane has ink there.
-fn row_is_told<L: Ledger>(
+fn row_is_reported<L: Ledger>(
     sheet: &Sheet,
     plane: &Plane,
     c: u32,
@@ -181,8 +186,8 @@ fn row_is_told<L: Ledger>(
     requires low { y < 40 }
 {
     for x in 0..width {
-        let bare = plane.tints.as_slice().get((y * width + x) as usize) == Some(&0);
-        if sheet.is_bare(c, x, y, steps) != bare {
+        let outline = plane.tints.as_slice().get((y * width + x) as usize) == Some(&0);
+        if sheet.is_outline(c, x, y, steps) != outline {
             return false;
         }
     }
@@ -190,7 +195,13 @@ fn row_is_told<L: Ledger>(
 }
 
 /// Whether the sheet says so of each row of plate c.
-fn plate_is_told<L: Ledger>(sheet: &Sheet, plane: &Plane, c: u32, height: u32, blank: Blank) -> bool
+fn plate_is_reported<L: Ledger>(
+    sheet: &Sheet,
+    plane: &Plane,
+    c: u32,
+    height: u32,
+    blank: Blank,
+) -> bool
     requires plate { c < length sheet.now }
     requires height { height ≡ tall sheet.now }
     requires narrow { wide sheet.now ≤ 40 }
@@ -202,7 +213,7 @@ fn plate_is_told<L: Ledger>(sheet: &Sheet, plane: &Plane, c: u32, height: u32, b
 {
     let mut steps = Steps::<L>::new(blank);
     for y in 0..height {
-        if !row_is_told(sheet, plane, c, y, plane.width, &mut steps) {
+        if !row_is_reported(sheet, plane, c, y, plane.width, &mut steps) {
             return false;
         }
     }
@@ -253,7 +264,7 @@ fn first_misread(planes: &PlaneList, height: u32, plates: u32) -> Option<u32>
     let sheet = Sheet::new(planes);
     for c in 0..plates {
         let plane = &planes.as_slice()[c as usize];
-        if !plate_is_told::<Brand>(&sheet, plane, c, height, Blank::new(1)) {
+        if !plate_is_reported::<Brand>(&sheet, plane, c, height, Blank::new(1)) {
             return Some(c);
         }
     }
@@ -281,11 +292,11 @@ const PAGES: &[Random] = &[
 ];
 
 // Whether the sheet of such a page says of each sample whether it has ink, and both counts of it are one at each radius.
-fn is_right(rt: &impl Abort, alloc: Global, (width, height, plates, bare): Random) -> bool {
+fn is_right(rt: &impl Abort, alloc: Global, (width, height, plates, outline): Random) -> bool {
     if width < 1 || width > 40 || height < 1 || height > 40 || plates < 1 || plates > 16 {
         return false;
     }
-    let planes = random_planes(alloc, width, height, plates, bare).expect(rt, "no memory");
+    let planes = random_planes(alloc, width, height, plates, outline).expect(rt, "no memory");
     let is_read = first_misread(&planes, height, plates) == None;
     is_read && first_difference(alloc, &planes, width, height, plates) == None
 }

@@ -73,7 +73,7 @@ fn is_untold<'a>(
 }
 
 #[test]
-fn a_text_that_cannot_be_told_changes_status_0_alone(rt: HostRuntime) {
+fn a_text_that_cannot_be_reported_changes_status_0_alone(rt: HostRuntime) {
     for (words, job, status) in UNTOLD {
         let is = is_untold(&rt, rt.alloc(), words, job, *status);
         judge(&rt, is, words, u64::from(*status));

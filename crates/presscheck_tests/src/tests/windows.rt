@@ -43,10 +43,10 @@ fn add(rt: &impl Abort, bytes: &mut Vec<u8>, byte: u8) {
 }
 
 // A plate of five columns and four rows that is covered but for the sample at that place.
-fn plate_of(rt: &impl Abort, alloc: Global, bare: u32) -> Vec<u8> {
+fn plate_of(rt: &impl Abort, alloc: Global, outline: u32) -> Vec<u8> {
     let mut bytes = b"P5\n5 4\n255\n".to_vec(alloc).expect(rt, "no memory");
     for place in 0..20u32 {
-        add(rt, &mut bytes, if place == bare { 255 } else { 0 });
+        add(rt, &mut bytes, if place == outline { 255 } else { 0 });
     }
     bytes
 }
@@ -64,16 +64,16 @@ fn count_near(column: u32, row: u32, radius: u32) -> u32 {
         .saturating_sub(1)
 }
 
-fn is_told(rt: &impl Abort, alloc: Global, column: u32, row: u32, radius: u32) -> bool {
+fn is_reported(rt: &impl Abort, alloc: Global, column: u32, row: u32, radius: u32) -> bool {
     let plate = plate_of(rt, alloc, row.saturating_mul(5).saturating_add(column));
     let count = count_near(column, row, radius);
     plates_tell(rt, alloc, ("Cyan:in0", &[plate.as_slice()]), radius, count)
 }
 
 // Whether that holds of each place of a row.
-fn row_is_told(rt: &impl Abort, alloc: Global, row: u32, radius: u32) -> bool {
+fn row_is_reported(rt: &impl Abort, alloc: Global, row: u32, radius: u32) -> bool {
     for column in 0..5 {
-        if !is_told(rt, alloc, column, row, radius) {
+        if !is_reported(rt, alloc, column, row, radius) {
             return false;
         }
     }
@@ -84,7 +84,7 @@ fn row_is_told(rt: &impl Abort, alloc: Global, row: u32, radius: u32) -> bool {
 fn a_window_ends_at_each_border(rt: HostRuntime) {
     for radius in [0u32, 1, 2, 3, 4, 5, 16] {
         for row in 0..4 {
-            let is = row_is_told(&rt, rt.alloc(), row, radius);
+            let is = row_is_reported(&rt, rt.alloc(), row, radius);
             judge(
                 &rt,
                 is,

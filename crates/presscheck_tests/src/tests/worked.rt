@@ -114,7 +114,7 @@ fn checks() -> &'static [Checked] {
     CHECKS
 }
 
-fn is_told(rt: &impl Abort, alloc: Global, check: &Checked) -> bool {
+fn is_reported(rt: &impl Abort, alloc: Global, check: &Checked) -> bool {
     let case = Case {
         words: check.words,
         job: check.job,
@@ -127,7 +127,7 @@ fn is_told(rt: &impl Abort, alloc: Global, check: &Checked) -> bool {
 #[test]
 fn checks_tell_their_counts_or_why_there_are_none(rt: HostRuntime) {
     for check in checks() {
-        let is = is_told(&rt, rt.alloc(), check);
+        let is = is_reported(&rt, rt.alloc(), check);
         judge(&rt, is, check.words, u64::from(check.status));
     }
 }

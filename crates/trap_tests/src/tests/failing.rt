@@ -35,7 +35,7 @@ fn is_unread(
 }
 
 #[test]
-fn a_job_that_fails_is_told_of(rt: HostRuntime) {
+fn a_job_that_fails_is_reported_of(rt: HostRuntime) {
     for place in 0..44 {
         let is = is_unread(
             &rt,
@@ -49,7 +49,7 @@ fn a_job_that_fails_is_told_of(rt: HostRuntime) {
 }
 
 #[test]
-fn a_plate_that_fails_is_told_of(rt: HostRuntime) {
+fn a_plate_that_fails_is_reported_of(rt: HostRuntime) {
     for place in 0..18 {
         let is = is_unread(
             &rt,
@@ -78,7 +78,7 @@ fn is_cut(rt: &(impl Abort + Threads + Sync), alloc: Global, count: usize) -> bo
 }
 
 #[test]
-fn a_plate_that_is_cut_is_told_of(rt: HostRuntime) {
+fn a_plate_that_is_cut_is_reported_of(rt: HostRuntime) {
     for count in 0..17 {
         judge(&rt, is_cut(&rt, rt.alloc(), count), "cut to", count as u64);
     }
@@ -110,28 +110,33 @@ fn part_of(bytes: &[u8], number: usize, broken: usize, count: usize) -> Option<&
 }
 
 // How a run with so much room ends: the status, the file that is broken, how many of its bytes stand, and the line.
-fn end_with(room: usize) -> (u8, usize, usize, &'static str) {
-    match room {
-        0..=16 => (6, 0, room, "write fault: plate 0\n"),
-        17..=33 => (6, 1, room.saturating_sub(17), "write fault: plate 1\n"),
-        34..=151 => (6, 2, room.saturating_sub(34), "write fault: report\n"),
-        _ => (0, 3, room.saturating_sub(34), ""),
+fn end_with(workspace: usize) -> (u8, usize, usize, &'static str) {
+    match workspace {
+        0..=16 => (6, 0, workspace, "write fault: plate 0\n"),
+        17..=33 => (6, 1, workspace.saturating_sub(17), "write fault: plate 1\n"),
+        34..=151 => (6, 2, workspace.saturating_sub(34), "write fault: report\n"),
+        _ => (0, 3, workspace.saturating_sub(34), ""),
     }
 }
 
-fn fits(rt: &(impl Abort + Threads + Sync), alloc: Global, room: usize) -> bool {
+fn fits(rt: &(impl Abort + Threads + Sync), alloc: Global, workspace: usize) -> bool {
     let case = Case {
-        room: room as u64,
+        workspace: workspace as u64,
         ..USUAL
     };
-    let (status, broken, count, line) = end_with(room);
+    let (status, broken, count, line) = end_with(workspace);
     ends(rt, alloc, case, status, Look::UpTo(broken, count, line))
 }
 
 #[test]
-fn a_rack_without_room_holds_what_fits(rt: HostRuntime) {
-    for room in 0..153 {
-        judge(&rt, fits(&rt, rt.alloc(), room), "room", room as u64);
+fn a_rack_without_workspace_holds_what_fits(rt: HostRuntime) {
+    for workspace in 0..153 {
+        judge(
+            &rt,
+            fits(&rt, rt.alloc(), workspace),
+            "room",
+            workspace as u64,
+        );
     }
 }
 
@@ -140,9 +145,11 @@ fn a_rack_without_room_holds_what_fits(rt: HostRuntime) {
 pub(super) fn is_broken(rack: &MemRack) -> bool {
     let mut is_later = false;
     for ((name, bytes), line) in NAMES.iter().zip(TRAPPED.iter()).zip(LINES.iter()) {
-        let is_broken = rack.told() == line.as_bytes();
+        let is_broken = rack.reported() == line.as_bytes();
         let is_right = match rack.file(name) {
-            Some(held) => !is_later && (held == *bytes || is_broken) && bytes.starts_with(held),
+            Some(stored) => !is_later
+                && (stored == *bytes || is_broken)
+                && bytes.starts_with(stored),
             None => is_later || is_broken,
         };
         if !is_right {

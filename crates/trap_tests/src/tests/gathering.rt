@@ -1,4 +1,5 @@
 use super::{DISABLED, file_of, put, tray_of};
+use common_errors::common::CommonError;
 use lists::list::List;
 use lists::memory::push;
 use lists::names::{Name, NameList, copy_name};
@@ -8,7 +9,6 @@ use page_files::gather::gather;
 use page_model::page::PageFault;
 use pgm_plates::plate::PlateFault;
 use ps_tokens::faults::{FaultKind, JobFault};
-use refusals::refusal::Refusal;
 use std::alloc::Global;
 use std::process::Abort;
 
@@ -16,47 +16,51 @@ const CYAN: &[u8] = b"P5 1 1 255 .";
 
 const BLACK: &[u8] = b"P5 1 1 255 \x03";
 
-// The job, two plates, the file that cannot be read to its end (0 being the job), and the refusal.
-const CASES: &[([&[u8]; 3], Option<usize>, Option<Refusal>)] = &[
+// The job, two plates, the file that cannot be read to its end (0 being the job), and the error.
+const CASES: &[([&[u8]; 3], Option<usize>, Option<CommonError>)] = &[
     ([DISABLED, CYAN, BLACK], None, None),
     (
         [b"", CYAN, BLACK],
         None,
-        Some(Refusal::Job(JobFault {
+        Some(CommonError::Job(JobFault {
             kind: FaultKind::NoShowpage,
             at: 0,
         })),
     ),
-    ([DISABLED, CYAN, BLACK], Some(0), Some(Refusal::Read(None))),
+    (
+        [DISABLED, CYAN, BLACK],
+        Some(0),
+        Some(CommonError::Read(None)),
+    ),
     (
         [DISABLED, b"P5 1 1 255 ", BLACK],
         None,
-        Some(Refusal::Plate(0, PlateFault::Truncated(11))),
+        Some(CommonError::Plate(0, PlateFault::Truncated(11))),
     ),
     (
         [DISABLED, b"P5 1 1 255 ", BLACK],
         Some(1),
-        Some(Refusal::Read(Some(0))),
+        Some(CommonError::Read(Some(0))),
     ),
     (
         [DISABLED, CYAN, b"P6 1 1 9 \x03"],
         None,
-        Some(Refusal::Plate(1, PlateFault::BadMagic(1))),
+        Some(CommonError::Plate(1, PlateFault::BadMagic(1))),
     ),
     (
         [DISABLED, b"P4", b"P6"],
         None,
-        Some(Refusal::Plate(0, PlateFault::BadMagic(1))),
+        Some(CommonError::Plate(0, PlateFault::BadMagic(1))),
     ),
     (
         [DISABLED, CYAN, b"P5 1 1 9 "],
         Some(2),
-        Some(Refusal::Read(Some(1))),
+        Some(CommonError::Read(Some(1))),
     ),
     (
         [DISABLED, CYAN, b"P5 1 2 255 \x03\x03"],
         None,
-        Some(Refusal::Page(PageFault::SizeDiffers(1))),
+        Some(CommonError::Page(PageFault::SizeDiffers(1))),
     ),
 ];
 
@@ -101,40 +105,40 @@ fn put_name(rt: &impl Abort, names: &mut NameList, name: Name) {
     assert!(rt; push(names, name).is_ok(), "no memory");
 }
 
-fn refusal_by(alloc: Global, tray: &mut MemTray, names: &NameList) -> Option<Refusal> {
+fn error_by(alloc: Global, tray: &mut MemTray, names: &NameList) -> Option<CommonError> {
     if names.len() != 2 {
         return None;
     }
     match gather(alloc, tray, "job", names, &["c", "k"]) {
         Ok(_) => None,
-        Err(refusal) => Some(refusal),
+        Err(error) => Some(error),
     }
 }
 
-fn refusal_on(
+fn error_on(
     rt: &impl Abort,
     alloc: Global,
     files: FileList,
     names: &NameList,
-) -> Option<Refusal> {
+) -> Option<CommonError> {
     let mut tray = tray_of(alloc, files, 4096, None).expect(rt, "no tray");
-    refusal_by(alloc, &mut tray, names)
+    error_by(alloc, &mut tray, names)
 }
 
-fn refusal_of(
+fn error_of(
     rt: &impl Abort,
     alloc: Global,
     texts: &[&[u8]; 3],
     broken: Option<usize>,
-) -> Option<Refusal> {
+) -> Option<CommonError> {
     let names = names_of(rt, alloc);
-    refusal_on(rt, alloc, files_of(rt, alloc, texts, broken), &names)
+    error_on(rt, alloc, files_of(rt, alloc, texts, broken), &names)
 }
 
 #[test]
-fn a_page_is_gathered_up_to_the_first_refusal(rt: HostRuntime) {
+fn a_page_is_gathered_up_to_the_first_error(rt: HostRuntime) {
     for (texts, broken, wanted) in CASES {
-        let found = refusal_of(&rt, rt.alloc(), texts, *broken);
+        let found = error_of(&rt, rt.alloc(), texts, *broken);
         assert!(rt; found == *wanted, "{texts:?}, {broken:?} breaks off");
     }
 }

@@ -154,7 +154,7 @@ fn is_answered(
 
 fn look_at(wanted: u8, line: &str) -> Look<'_> {
     if wanted == 0 {
-        Look::Told(line)
+        Look::Reported(line)
     } else {
         Look::Unwritten(line)
     }

@@ -1,6 +1,5 @@
 use super::{Case, END, INKS, Look, SET, TALL_CYAN, TALL_MAGENTA, USUAL, run_by};
-use band_claims::Pass;
-use band_claims::Gate;
+use band_claims::{Gate, Pass};
 use std::sync::atomic::{AtomicU64, Ordering};
 
 // The pieces of the first phase of a page of twelve rows, in bands of one row.

@@ -4,12 +4,12 @@ ghost use Rattle.page_model.specs.Conditions.{IsPlane};
 ghost use Rattle.page_model.specs.Limits.{most_samples};
 
 use super::{has, judge, rack_of};
+use common_errors::common::CommonError;
 use lists::list::List;
 use lists::memory::push;
 use outside::mem_rack::MemRack;
-use page_model::parts::{OutOfMemory, Plane, PlaneList};
 use page_files::writing::write_page;
-use refusals::refusal::Refusal;
+use page_model::parts::{OutOfMemory, Plane, PlaneList};
 use std::alloc::Global;
 use std::process::Abort;
 
@@ -71,14 +71,14 @@ const FILES: [(&str, &str); 3] = [
     ("page.txt", "end\n"),
 ];
 
-const AT_CYAN: Option<Refusal> = Some(Refusal::Write(Some(0)));
+const AT_CYAN: Option<CommonError> = Some(CommonError::Write(Some(0)));
 
-const AT_BLACK: Option<Refusal> = Some(Refusal::Write(Some(1)));
+const AT_BLACK: Option<CommonError> = Some(CommonError::Write(Some(1)));
 
-const AT_REPORT: Option<Refusal> = Some(Refusal::Write(None));
+const AT_REPORT: Option<CommonError> = Some(CommonError::Write(None));
 
 // The room of the rack, the answer, and how many bytes each file has.
-const ROOMS: [(u64, Option<Refusal>, [Option<usize>; 3]); 8] = [
+const ROOMS: [(u64, Option<CommonError>, [Option<usize>; 3]); 8] = [
     (0, AT_CYAN, [Some(0), None, None]),
     (12, AT_CYAN, [Some(12), None, None]),
     (13, AT_BLACK, [Some(13), Some(0), None]),
@@ -91,7 +91,7 @@ const ROOMS: [(u64, Option<Refusal>, [Option<usize>; 3]); 8] = [
 
 // The call that fails, the answer, and how many bytes each file has. A plate is created, written by `P5` and its LF,
 // each number and the byte after it, and the samples, and finished; the report is created, written and finished.
-const CALLS: [(u64, Option<Refusal>, [Option<usize>; 3]); 24] = [
+const CALLS: [(u64, Option<CommonError>, [Option<usize>; 3]); 24] = [
     (0, AT_CYAN, [None, None, None]),
     (1, AT_CYAN, [Some(0), None, None]),
     (2, AT_CYAN, [Some(3), None, None]),
@@ -133,18 +133,18 @@ fn holds_prefixes(rack: &MemRack, counts: &[Option<usize>; 3]) -> bool {
             return false;
         }
     }
-    rack.told().is_empty()
+    rack.reported().is_empty()
 }
 
 // Why the planes and the report are not written.
-fn refusal_of(rack: &mut MemRack, planes: PlaneList) -> Option<Refusal>
+fn error_of(rack: &mut MemRack, planes: PlaneList) -> Option<CommonError>
     requires count { length planes ≡ 2 }
     requires planes { All IsPlane planes }
     requires samples { All (λ p. p.width * p.height ≤ most_samples) planes }
 {
     match write_page(rack, &NAMES, planes, "page.txt", b"end\n") {
         Ok(_) => None,
-        Err(refusal) => Some(refusal),
+        Err(error) => Some(error),
     }
 }
 
@@ -152,34 +152,34 @@ fn refusal_of(rack: &mut MemRack, planes: PlaneList) -> Option<Refusal>
 fn ends(
     rack: &mut MemRack,
     planes: PlaneList,
-    wanted: Option<Refusal>,
+    wanted: Option<CommonError>,
     counts: &[Option<usize>; 3],
 ) -> bool
     requires count { length planes ≡ 2 }
     requires planes { All IsPlane planes }
     requires samples { All (λ p. p.width * p.height ≤ most_samples) planes }
 {
-    refusal_of(rack, planes) == wanted && holds_prefixes(rack, counts)
+    error_of(rack, planes) == wanted && holds_prefixes(rack, counts)
 }
 
 // Whether such a rack gives the answer and the files.
 fn is_written(
     rt: &impl Abort,
     alloc: Global,
-    (room, call): (u64, u64),
-    wanted: Option<Refusal>,
+    (workspace, call): (u64, u64),
+    wanted: Option<CommonError>,
     counts: &[Option<usize>; 3],
 ) -> bool {
     let planes = two_planes(rt, alloc);
-    let mut rack = rack_of(alloc, 4096, room, Some(call)).expect(rt, "no memory");
+    let mut rack = rack_of(alloc, 4096, workspace, Some(call)).expect(rt, "no memory");
     ends(&mut rack, planes, wanted, counts)
 }
 
 #[test]
-fn a_page_is_written_as_far_as_there_is_room(rt: HostRuntime) {
-    for (room, wanted, counts) in ROOMS {
-        let is = is_written(&rt, rt.alloc(), (room, 1000), wanted, &counts);
-        judge(&rt, is, "room", room);
+fn a_page_is_written_as_far_as_there_is_workspace(rt: HostRuntime) {
+    for (workspace, wanted, counts) in ROOMS {
+        let is = is_written(&rt, rt.alloc(), (workspace, 1000), wanted, &counts);
+        judge(&rt, is, "room", workspace);
     }
 }
 

@@ -44,7 +44,7 @@ fn list_ends<H: Threads + Wait + Abort + Sync>(
     alloc: Global,
     list: Pieces<'_>,
     status: u8,
-    told: &str,
+    reported: &str,
 ) -> bool {
     let case = Case {
         words: "3 list",
@@ -53,7 +53,7 @@ fn list_ends<H: Threads + Wait + Abort + Sync>(
     };
     let wanted = Wanted {
         status,
-        told,
+        reported,
         written: &[("a0", None), ("r0", None)],
     };
     ends(rt, alloc, case, &OpenTakes, wanted)
@@ -69,12 +69,12 @@ fn is_bad_at<H: Threads + Wait + Abort + Sync>(
     list: Pieces<'_>,
     line: u32,
 ) -> bool {
-    let told = line_of_bad(rt, alloc, line);
-    list_ends(rt, alloc, list, 3, told.as_str())
+    let reported = line_of_bad(rt, alloc, line);
+    list_ends(rt, alloc, list, 3, reported.as_str())
 }
 
 #[test]
-fn the_first_bad_line_is_told(rt: HostRuntime) {
+fn the_first_bad_line_is_reported(rt: HostRuntime) {
     for (place, (list, line)) in bad_lists().iter().enumerate() {
         let is = is_bad_at(&rt, rt.alloc(), &[*list], *line);
         judge(&rt, is, "list", place as u64);
@@ -105,11 +105,11 @@ fn lines_of(rt: &impl Abort, alloc: Global, count: u32) -> String {
 
 // What is printed for `count` broken jobs.
 fn lines_of_broken(rt: &impl Abort, alloc: Global, count: u32) -> String {
-    let mut told = String::new(alloc);
+    let mut reported = String::new(alloc);
     for number in 0..count {
-        add(rt, &mut told, line_of_broken(rt, alloc, number));
+        add(rt, &mut reported, line_of_broken(rt, alloc, number));
     }
-    told
+    reported
 }
 
 // Whether a list of `count` broken jobs ends so.
@@ -118,21 +118,21 @@ fn lines_end<H: Threads + Wait + Abort + Sync>(
     alloc: Global,
     count: u32,
     status: u8,
-    told: &str,
+    reported: &str,
 ) -> bool {
     let list = lines_of(rt, alloc, count);
-    list_ends(rt, alloc, &[list.as_bytes()], status, told)
+    list_ends(rt, alloc, &[list.as_bytes()], status, reported)
 }
 
-fn are_told<H: Threads + Wait + Abort + Sync>(rt: &H, alloc: Global, count: u32) -> bool {
-    let told = lines_of_broken(rt, alloc, count);
-    lines_end(rt, alloc, count, 9, told.as_str())
+fn are_reported<H: Threads + Wait + Abort + Sync>(rt: &H, alloc: Global, count: u32) -> bool {
+    let reported = lines_of_broken(rt, alloc, count);
+    lines_end(rt, alloc, count, 9, reported.as_str())
 }
 
 #[test]
 fn a_list_has_256_lines_at_most(rt: HostRuntime) {
-    judge(&rt, are_told(&rt, rt.alloc(), 1), "lines", 1);
-    judge(&rt, are_told(&rt, rt.alloc(), 256), "lines", 256);
+    judge(&rt, are_reported(&rt, rt.alloc(), 1), "lines", 1);
+    judge(&rt, are_reported(&rt, rt.alloc(), 256), "lines", 256);
     let is = lines_end(&rt, rt.alloc(), 257, 3, "list: BadLine 256\n");
     judge(&rt, is, "lines", 257);
 }
@@ -170,7 +170,7 @@ const CROSSED: Case<'static> = Case {
 
 const CROSSED_END: Wanted<'static> = Wanted {
     status: 0,
-    told: "job 0: done\njob 1: done\n",
+    reported: "job 0: done\njob 1: done\n",
     written: &[
         ("cyan", Some(TRAPPED_CYAN)),
         ("a1", Some(TRAPPED_CYAN)),

@@ -24,9 +24,9 @@ const READS: &[(u64, u8, &str)] = &[
 // The status and the text printed where that call of the tray fails.
 fn end_at(call: u64) -> (u8, &'static str) {
     let mut end = (0, "");
-    for (first, status, told) in READS {
+    for (first, status, reported) in READS {
         if *first <= call {
-            end = (*status, told);
+            end = (*status, reported);
         }
     }
     end
@@ -37,10 +37,10 @@ fn ends_at_read<H: Threads + Wait + Abort + Sync>(rt: &H, alloc: Global, call: u
         tray_fails: Some(call),
         ..USUAL
     };
-    let (status, told) = end_at(call);
+    let (status, reported) = end_at(call);
     let wanted = Wanted {
         status,
-        told,
+        reported,
         written: &[],
     };
     ends(rt, alloc, case, &OpenTakes, wanted)
@@ -58,12 +58,12 @@ fn each_read_fails_in_turn(rt: HostRuntime) {
 const WRITES: &[Wanted<'static>] = &[
     Wanted {
         status: 9,
-        told: "job 0: write fault: plate 0\njob 1: done\n",
+        reported: "job 0: write fault: plate 0\njob 1: done\n",
         written: &[("b0", None), ("r0", None), ("r1", Some(UNSLID_REPORT))],
     },
     Wanted {
         status: 9,
-        told: "job 0: write fault: plate 1\njob 1: done\n",
+        reported: "job 0: write fault: plate 1\njob 1: done\n",
         written: &[
             ("a0", Some(TRAPPED_CYAN)),
             ("r0", None),
@@ -72,12 +72,12 @@ const WRITES: &[Wanted<'static>] = &[
     },
     Wanted {
         status: 9,
-        told: "job 0: write fault: report\njob 1: done\n",
+        reported: "job 0: write fault: report\njob 1: done\n",
         written: &[("b0", Some(TRAPPED_MAGENTA)), ("r1", Some(UNSLID_REPORT))],
     },
     Wanted {
         status: 6,
-        told: "",
+        reported: "",
         written: &[
             ("r0", Some(TRAPPED_REPORT)),
             ("a1", None),
@@ -87,7 +87,7 @@ const WRITES: &[Wanted<'static>] = &[
     },
     Wanted {
         status: 6,
-        told: "job 0: ",
+        reported: "job 0: ",
         written: &[
             ("r0", Some(TRAPPED_REPORT)),
             ("a1", None),
@@ -97,12 +97,12 @@ const WRITES: &[Wanted<'static>] = &[
     },
     Wanted {
         status: 9,
-        told: "job 0: done\njob 1: write fault: plate 0\n",
+        reported: "job 0: done\njob 1: write fault: plate 0\n",
         written: &[("r0", Some(TRAPPED_REPORT)), ("b1", None), ("r1", None)],
     },
     Wanted {
         status: 9,
-        told: "job 0: done\njob 1: write fault: plate 1\n",
+        reported: "job 0: done\njob 1: write fault: plate 1\n",
         written: &[
             ("r0", Some(TRAPPED_REPORT)),
             ("a1", Some(UNSLID_CYAN)),
@@ -111,22 +111,22 @@ const WRITES: &[Wanted<'static>] = &[
     },
     Wanted {
         status: 9,
-        told: "job 0: done\njob 1: write fault: report\n",
+        reported: "job 0: done\njob 1: write fault: report\n",
         written: &[("r0", Some(TRAPPED_REPORT)), ("b1", Some(MAGENTA))],
     },
     Wanted {
         status: 6,
-        told: "job 0: done\n",
+        reported: "job 0: done\n",
         written: &[("r0", Some(TRAPPED_REPORT)), ("r1", Some(UNSLID_REPORT))],
     },
     Wanted {
         status: 6,
-        told: "job 0: done\njob 1: ",
+        reported: "job 0: done\njob 1: ",
         written: &[("r0", Some(TRAPPED_REPORT)), ("r1", Some(UNSLID_REPORT))],
     },
     Wanted {
         status: 0,
-        told: "job 0: done\njob 1: done\n",
+        reported: "job 0: done\njob 1: done\n",
         written: &[("r0", Some(TRAPPED_REPORT)), ("r1", Some(UNSLID_REPORT))],
     },
 ];

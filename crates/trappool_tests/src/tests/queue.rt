@@ -1,13 +1,13 @@
 ghost use Rattle.std.specs.Prelude.{◌≡◌};
 
 use super::judge;
-use trap_pool::{LineWork, Room, open_queue, push_line, push_lines, rooms_of, serve_all};
 use std::alloc::Global;
 use std::process::Abort;
 use std::sync::Wait;
 use std::sync::atomic::AtomicBool;
 use std::sync::atomic::Ordering::SeqCst;
 use std::thread::Threads;
+use trap_pool::{LineWork, Workspace, open_queue, push_line, push_lines, serve_all, workspaces_of};
 
 // Two workers that wait for each other, and make the line's square.
 #[derive(Drop)]
@@ -46,10 +46,10 @@ fn new_meeting() -> Meeting {
 }
 
 // The sum of what was made.
-fn sum_of(rooms: &[Room<u64>]) -> u64 {
+fn sum_of(workspaces: &[Workspace<u64>]) -> u64 {
     let mut made = 0u64;
-    for room in rooms {
-        for kept in room.kept.as_slice() {
+    for workspace in workspaces {
+        for kept in workspace.kept.as_slice() {
             made = made.wrapping_add(kept.made);
         }
     }
@@ -62,11 +62,11 @@ fn serve_two<H: Threads + Wait + Abort + Sync>(
     alloc: Global,
     work: &Meeting,
 ) -> (usize, u64) {
-    let rooms = rooms_of::<u64>(alloc, 2, 4).expect(rt, "no memory");
+    let workspaces = workspaces_of::<u64>(alloc, 2, 4).expect(rt, "no memory");
     let (queue, mut pass) = open_queue(alloc, 4).expect(rt, "no memory");
     let pushed = push_lines(rt, &queue, &mut pass, &[6, 7]);
-    let (_, rooms) = serve_all(rt, &queue, work, pass, rooms);
-    (pushed, sum_of(rooms.as_slice()))
+    let (_, workspaces) = serve_all(rt, &queue, work, pass, workspaces);
+    (pushed, sum_of(workspaces.as_slice()))
 }
 
 #[test]

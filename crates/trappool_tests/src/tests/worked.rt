@@ -18,7 +18,7 @@ const THREE: Pieces<'static> = &[
 
 const OF_THREE: Wanted<'static> = Wanted {
     status: 9,
-    told: "job 0: done\njob 1: job: NoDetails for plate 0\njob 2: done\n",
+    reported: "job 0: done\njob 1: job: NoDetails for plate 0\njob 2: done\n",
     written: &[
         ("a0", Some(TRAPPED_CYAN)),
         ("b0", Some(TRAPPED_MAGENTA)),
@@ -58,7 +58,7 @@ const NO_WORDS: &[&str] = &["1", "0 list", "65 list", "1 list list", "+1 list", 
 
 const USAGE: Wanted<'static> = Wanted {
     status: 2,
-    told: "usage: trappool WORKERS LIST\n",
+    reported: "usage: trappool WORKERS LIST\n",
     written: &[],
 };
 
@@ -102,7 +102,7 @@ fn new_meeting() -> Meeting {
 
 const BOTH_DONE: Wanted<'static> = Wanted {
     status: 0,
-    told: "job 0: done\njob 1: done\n",
+    reported: "job 0: done\njob 1: done\n",
     written: &[("a0", Some(TRAPPED_CYAN)), ("a1", Some(UNSLID_CYAN))],
 };
 

@@ -85,7 +85,7 @@ fn forty_tell<H: Threads + Wait + Abort + Sync>(
     rt: &H,
     alloc: Global,
     words: &str,
-    told: &str,
+    reported: &str,
 ) -> bool {
     let list = list_of(rt, alloc, 40);
     let case = Case {
@@ -95,15 +95,15 @@ fn forty_tell<H: Threads + Wait + Abort + Sync>(
     };
     let wanted = Wanted {
         status: 9,
-        told,
+        reported,
         written: &[("a2", None), ("r38", None)],
     };
     ends(rt, alloc, case, &OpenTakes, wanted)
 }
 
 fn forty_end<H: Threads + Wait + Abort + Sync>(rt: &H, alloc: Global, words: &str) -> bool {
-    let told = printed_lines(rt, alloc, 40);
-    forty_tell(rt, alloc, words, told.as_str())
+    let reported = printed_lines(rt, alloc, 40);
+    forty_tell(rt, alloc, words, reported.as_str())
 }
 
 fn forty_by<H: Threads + Wait + Abort + Sync>(rt: &H, alloc: Global, workers: u32) -> bool {

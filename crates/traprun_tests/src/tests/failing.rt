@@ -72,10 +72,10 @@ fn stops_at_read(
     rt: &(impl Abort + Threads + Sync),
     alloc: Global,
     call: u64,
-    stop: usize,
+    error: usize,
 ) -> bool {
     let case = case_of(Some(call), None);
-    match READS.get(stop) {
+    match READS.get(error) {
         Some((line, count)) => ends(rt, alloc, case, 5, Look::Left(line, whole(*count))),
         None => ends(rt, alloc, case, 0, Look::Left("", FILES)),
     }
@@ -85,17 +85,17 @@ fn stops_at_write(
     rt: &(impl Abort + Threads + Sync),
     alloc: Global,
     call: u64,
-    stop: usize,
+    error: usize,
 ) -> bool {
     let case = case_of(None, Some(call));
-    match WRITES.get(stop) {
+    match WRITES.get(error) {
         Some((line, count)) => ends(rt, alloc, case, 6, Look::Broken(line, *count)),
         None => ends(rt, alloc, case, 0, Look::Left("", FILES)),
     }
 }
 
 // The stop that a run comes to: that of the call before, or the next one.
-fn read_stop(rt: &(impl Abort + Threads + Sync), alloc: Global, call: u64, last: usize) -> usize {
+fn read_error(rt: &(impl Abort + Threads + Sync), alloc: Global, call: u64, last: usize) -> usize {
     if stops_at_read(rt, alloc, call, last) {
         return last;
     }
@@ -104,7 +104,7 @@ fn read_stop(rt: &(impl Abort + Threads + Sync), alloc: Global, call: u64, last:
     next
 }
 
-fn write_stop(rt: &(impl Abort + Threads + Sync), alloc: Global, call: u64, last: usize) -> usize {
+fn write_error(rt: &(impl Abort + Threads + Sync), alloc: Global, call: u64, last: usize) -> usize {
     if stops_at_write(rt, alloc, call, last) {
         return last;
     }
@@ -118,7 +118,7 @@ fn write_stop(rt: &(impl Abort + Threads + Sync), alloc: Global, call: u64, last
 fn each_read_fails_in_turn(rt: HostRuntime) {
     let mut last = 0;
     for call in 0..400 {
-        last = read_stop(&rt, rt.alloc(), call, last);
+        last = read_error(&rt, rt.alloc(), call, last);
     }
     judge(&rt, last == READS.len(), "stops", last as u64);
 }
@@ -127,7 +127,7 @@ fn each_read_fails_in_turn(rt: HostRuntime) {
 fn each_write_fails_in_turn(rt: HostRuntime) {
     let mut last = 0;
     for call in 0..100 {
-        last = write_stop(&rt, rt.alloc(), call, last);
+        last = write_error(&rt, rt.alloc(), call, last);
     }
     judge(&rt, last == WRITES.len(), "stops", last as u64);
 }

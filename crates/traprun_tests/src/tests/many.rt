@@ -89,12 +89,12 @@ fn plate_ends(
 fn job_ends(
     rt: &(impl Abort + Threads + Sync),
     alloc: Global,
-    (piece, count, status, told, files): Job,
+    (piece, count, status, reported, files): Job,
 ) -> bool {
     let more = piece.repeat(alloc, count).expect(rt, "no memory");
     let images = images(rt, alloc);
     let found: [&[&[u8]]; 2] = [&[DISABLED, &more], &[&images]];
-    plate_ends(rt, alloc, &found, status, Look::Some(told, files))
+    plate_ends(rt, alloc, &found, status, Look::Some(reported, files))
 }
 
 #[test]

@@ -3,7 +3,7 @@ use job_pages::page::page_job;
 use job_pages::run::page_count;
 use job_reader::job::Job;
 use ps_tokens::LONGEST_JOB;
-use ps_tokens::faults::{FaultKind, JobFault, JobRefusal};
+use ps_tokens::faults::{FaultKind, JobError, JobFault};
 use std::alloc::Global;
 use std::process::Abort;
 
@@ -44,8 +44,8 @@ fn page_limits(alloc: Global, job: &[u8], page: u32) -> Option<Limits> {
     match page_count(alloc, job) {
         Ok(count) if page < count => match page_job(alloc, job, page) {
             Ok(read) => Some(Ok(limits_in(read)?)),
-            Err(JobRefusal::Fault(fault)) => Some(Err(fault)),
-            Err(JobRefusal::OutOfMemory) => None,
+            Err(JobError::Fault(fault)) => Some(Err(fault)),
+            Err(JobError::OutOfMemory) => None,
         },
         _ => None,
     }

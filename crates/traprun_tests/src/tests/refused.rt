@@ -199,33 +199,33 @@ fn is_refused(
     alloc: Global,
     files: &[Pieces<'_>],
     status: u8,
-    (told, pages): (&str, usize),
+    (reported, pages): (&str, usize),
 ) -> bool {
-    files_end(rt, alloc, files, status, Look::Left(told, whole(pages)))
+    files_end(rt, alloc, files, status, Look::Left(reported, whole(pages)))
 }
 
 #[test]
 fn a_job_that_is_refused_leaves_the_pages_before_whole(rt: HostRuntime) {
-    for (job, told, pages) in jobs() {
+    for (job, reported, pages) in jobs() {
         let files = [*job, ALL_CYAN, ALL_MAGENTA];
-        let is = is_refused(&rt, rt.alloc(), &files, 3, (told, *pages));
-        judge(&rt, is, told, *pages as u64);
+        let is = is_refused(&rt, rt.alloc(), &files, 3, (reported, *pages));
+        judge(&rt, is, reported, *pages as u64);
     }
 }
 
 #[test]
 fn a_plate_that_is_refused_leaves_the_pages_before_whole(rt: HostRuntime) {
-    for (cyan, magenta, told, pages) in plates() {
+    for (cyan, magenta, reported, pages) in plates() {
         let files = [THREE, *cyan, *magenta];
-        let is = is_refused(&rt, rt.alloc(), &files, 4, (told, *pages));
-        judge(&rt, is, told, *pages as u64);
+        let is = is_refused(&rt, rt.alloc(), &files, 4, (reported, *pages));
+        judge(&rt, is, reported, *pages as u64);
     }
 }
 
 #[test]
-fn the_first_of_two_faults_is_told(rt: HostRuntime) {
-    for (files, status, told) in TWO_FAULTS {
-        let is = is_refused(&rt, rt.alloc(), files, *status, (told, 1));
-        judge(&rt, is, told, 1);
+fn the_first_of_two_faults_is_reported(rt: HostRuntime) {
+    for (files, status, reported) in TWO_FAULTS {
+        let is = is_refused(&rt, rt.alloc(), files, *status, (reported, 1));
+        judge(&rt, is, reported, 1);
     }
 }

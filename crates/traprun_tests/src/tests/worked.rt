@@ -13,7 +13,7 @@ type Files = &'static [Pieces<'static>];
 #[derive(Clone, Copy)]
 struct Wanted {
     status: u8,
-    told: &'static str,
+    reported: &'static str,
     files: &'static [&'static [u8]],
 }
 
@@ -53,7 +53,7 @@ const RUNS: &[(Files, Wanted)] = &[
         ],
         Wanted {
             status: 0,
-            told: "",
+            reported: "",
             files: &[
                 TRAPPED_CYAN,
                 TRAPPED_MAGENTA,
@@ -68,7 +68,7 @@ const RUNS: &[(Files, Wanted)] = &[
         &[&[INKS, WIDE, DARKER_SIDE], &[CYAN], &[MAGENTA, MAGENTA]],
         Wanted {
             status: 4,
-            told: "page 1: plate 0: Ends\n",
+            reported: "page 1: plate 0: Ends\n",
             files: &[TRAPPED_CYAN, TRAPPED_MAGENTA, TRAPPED_REPORT],
         },
     ),
@@ -80,7 +80,7 @@ const RUNS: &[(Files, Wanted)] = &[
         ],
         Wanted {
             status: 3,
-            told: "page 1: job: WrongOperands at 46\n",
+            reported: "page 1: job: WrongOperands at 46\n",
             files: &[CYAN, MAGENTA, UNTRAPPED_REPORT],
         },
     ),
@@ -88,7 +88,7 @@ const RUNS: &[(Files, Wanted)] = &[
         &[&[DISABLED], &[CYAN, CYAN], &[MAGENTA, MAGENTA]],
         Wanted {
             status: 4,
-            told: "run: plate 0: Extra\n",
+            reported: "run: plate 0: Extra\n",
             files: &[CYAN, MAGENTA, UNTRAPPED_REPORT],
         },
     ),
@@ -106,7 +106,7 @@ const RUNS: &[(Files, Wanted)] = &[
         ],
         Wanted {
             status: 0,
-            told: "",
+            reported: "",
             files: &[
                 TRAPPED_CYAN,
                 TRAPPED_MAGENTA,
@@ -129,7 +129,7 @@ const RUNS: &[(Files, Wanted)] = &[
         ],
         Wanted {
             status: 0,
-            told: "",
+            reported: "",
             files: &[
                 TRAPPED_CYAN,
                 TRAPPED_MAGENTA,
@@ -152,7 +152,7 @@ const RUNS: &[(Files, Wanted)] = &[
         ],
         Wanted {
             status: 0,
-            told: "",
+            reported: "",
             files: &[
                 UNSLID_PALE_CYAN,
                 MAGENTA,
@@ -178,7 +178,7 @@ const RUNS: &[(Files, Wanted)] = &[
         ],
         Wanted {
             status: 0,
-            told: "",
+            reported: "",
             files: &[
                 TRAPPED_CYAN,
                 TRAPPED_MAGENTA,
@@ -201,7 +201,7 @@ const RUNS: &[(Files, Wanted)] = &[
         ],
         Wanted {
             status: 0,
-            told: "",
+            reported: "",
             files: &[
                 TRAPPED_CYAN,
                 TRAPPED_MAGENTA,
@@ -224,7 +224,7 @@ fn run_ends(
     files: Files,
     wanted: Wanted,
 ) -> bool {
-    let look = Look::Left(wanted.told, wanted.files);
+    let look = Look::Left(wanted.reported, wanted.files);
     files_end(rt, alloc, files, wanted.status, look)
 }
 

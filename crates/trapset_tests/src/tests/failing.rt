@@ -87,11 +87,11 @@ fn each_read_fails_in_turn(rt: HostRuntime) {
 }
 
 // Whether that stands of a file: all of it, a prefix or nothing where it is the one that broke, and nothing after that.
-fn is_right(held: Option<&[u8]>, whole: Option<&[u8]>, is_broken: bool, is_later: bool) -> bool {
-    match (held, whole) {
-        (Some(held), Some(whole)) => !is_later
-            && (held == whole || is_broken)
-            && whole.starts_with(held),
+fn is_right(stored: Option<&[u8]>, whole: Option<&[u8]>, is_broken: bool, is_later: bool) -> bool {
+    match (stored, whole) {
+        (Some(stored), Some(whole)) => !is_later
+            && (stored == whole || is_broken)
+            && whole.starts_with(stored),
         (Some(_), None) => false,
         (None, Some(_)) => is_later || is_broken,
         (None, None) => true,
@@ -174,7 +174,7 @@ const UNTOLD: &[(&str, u8)] = &[
 ];
 
 #[test]
-fn a_line_that_cannot_be_told_leaves_its_status(rt: HostRuntime) {
+fn a_line_that_cannot_be_reported_leaves_its_status(rt: HostRuntime) {
     for (words, status) in UNTOLD {
         let case = with_calls(words, None, Some(0));
         let is = ends(&rt, rt.alloc(), case, *status, Look::Refused(""));

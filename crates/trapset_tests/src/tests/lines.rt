@@ -204,12 +204,12 @@ fn line_of(rt: &impl Abort, alloc: Global, line: u32) -> String {
 }
 
 fn is_bad_at(rt: &impl Abort, alloc: Global, set: Pieces<'_>, line: u32) -> bool {
-    let told = line_of(rt, alloc, line);
-    set_ends(rt, alloc, set, 8, Look::Refused(told.as_str()))
+    let reported = line_of(rt, alloc, line);
+    set_ends(rt, alloc, set, 8, Look::Refused(reported.as_str()))
 }
 
 #[test]
-fn the_first_bad_line_is_told(rt: HostRuntime) {
+fn the_first_bad_line_is_reported(rt: HostRuntime) {
     for (place, (set, line)) in bad_sets().iter().enumerate() {
         let is = is_bad_at(&rt, rt.alloc(), &[*set], *line);
         judge(&rt, is, "bad set", place as u64);

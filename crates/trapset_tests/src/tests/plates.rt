@@ -20,7 +20,7 @@ const OTHERS: &[&[u8]] = &[
 ];
 
 #[test]
-fn a_set_for_other_plates_is_told_as_such(rt: HostRuntime) {
+fn a_set_for_other_plates_is_reported_as_such(rt: HostRuntime) {
     for (place, set) in OTHERS.iter().enumerate() {
         let is = set_ends(&rt, rt.alloc(), &[*set], 8, DIFFERS);
         judge(&rt, is, "set", place as u64);

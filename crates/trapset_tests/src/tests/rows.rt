@@ -87,9 +87,9 @@ fn runs_stand_in_the_rows_that_they_name(rt: HostRuntime) {
 
 #[test]
 fn runs_go_on_row_by_row(rt: HostRuntime) {
-    for (place, (set, told)) in BAD.iter().enumerate() {
-        let is = rows_end(&rt, rt.alloc(), set, 8, Look::Refused(told));
-        judge(&rt, is, told, place as u64);
+    for (place, (set, reported)) in BAD.iter().enumerate() {
+        let is = rows_end(&rt, rt.alloc(), set, 8, Look::Refused(reported));
+        judge(&rt, is, reported, place as u64);
     }
 }
 

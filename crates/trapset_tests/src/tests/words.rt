@@ -41,13 +41,13 @@ fn other_words() -> &'static [&'static str] {
 }
 
 // Whether a run by these words, where all files are there, is refused so.
-fn is_refused(rt: &impl Abort, alloc: Global, words: &str, status: u8, told: &str) -> bool {
+fn is_refused(rt: &impl Abort, alloc: Global, words: &str, status: u8, reported: &str) -> bool {
     ends(
         rt,
         alloc,
         Case { words, ..USUAL },
         status,
-        Look::Refused(told),
+        Look::Refused(reported),
     )
 }
 
@@ -78,8 +78,8 @@ fn missing_files() -> &'static [(&'static str, &'static str)] {
 
 #[test]
 fn a_missing_file_is_a_read_fault(rt: HostRuntime) {
-    for (words, told) in missing_files() {
-        let is = is_refused(&rt, rt.alloc(), words, 5, told);
+    for (words, reported) in missing_files() {
+        let is = is_refused(&rt, rt.alloc(), words, 5, reported);
         judge(&rt, is, words, 5);
     }
 }

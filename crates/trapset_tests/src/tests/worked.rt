@@ -146,15 +146,15 @@ const REFUSED: &[(&[u8], &[u8], u8, &str)] = &[
 
 #[test]
 fn a_page_that_is_refused_gives_no_set(rt: HostRuntime) {
-    for (job, magenta, status, told) in REFUSED {
+    for (job, magenta, status, reported) in REFUSED {
         let is = traps_end(
             &rt,
             rt.alloc(),
             &[*job],
             magenta,
             *status,
-            Look::Refused(told),
+            Look::Refused(reported),
         );
-        judge(&rt, is, told, u64::from(*status));
+        judge(&rt, is, reported, u64::from(*status));
     }
 }

@@ -2,16 +2,16 @@ ghost use Rattle.std.specs.Prelude.{◌≡◌, ◌<◌, ℕ, length};
 ghost use Rattle.page_model.specs.Planes.{plane_at};
 
 use super::devices::{Fault, judge, trays_of};
+use common_errors::common::CommonError;
 use lists::list::List;
 use outside::mem_tray::MemTray;
 use outside::tray::Tray;
 use page_model::parts::Plane;
 use pgm_plates::plate::PlateFault;
 use pgm_plates::rows::{Header, OpenPlate};
-use plate_rows::sharing::judge_plates;
+use plate_rows::error::RereadError;
 use plate_rows::rereading::{NextRows, begin_plates, end_plates, read_next};
-use plate_rows::stop::RereadError;
-use refusals::refusal::Refusal;
+use plate_rows::sharing::judge_plates;
 use std::alloc::Global;
 use std::process::Abort;
 use std::thread::Threads;
@@ -49,7 +49,7 @@ const WIDE: &str = "P5 2 3 300 \x00\x01\x00\x02\x00\x03\x01\x2c\x00\x05\x01\x00"
 #[derive(Clone, Copy, PartialEq, Eq)]
 enum End {
     // The first refuses a plate.
-    Refused(Refusal),
+    Refused(CommonError),
     // The second stops.
     Stopped(RereadError),
     // The last two rows of each plate, as tints.
@@ -57,13 +57,13 @@ enum End {
 }
 
 // Judges two plates side by side.
-fn judge_two(rt: &(impl Threads + Sync), trays: &mut [MemTray]) -> Result<[Header; 2], Refusal>
+fn judge_two(rt: &(impl Threads + Sync), trays: &mut [MemTray]) -> Result<[Header; 2], CommonError>
     requires { length trays.old ≡ 2 }
 {
     let mut headers = [NONE.header; 2];
     match judge_plates(rt, 2, trays, &INPUTS, &mut headers) {
         Ok(()) => Ok(headers),
-        Err(refusal) => Err(refusal),
+        Err(common_error) => Err(common_error),
     }
 }
 
@@ -140,7 +140,7 @@ fn read_both(
             assert!(rt; headers == HEADERS);
             read_second(rt, alloc, trays, planes)
         }
-        Err(refusal) => End::Refused(refusal),
+        Err(common_error) => End::Refused(common_error),
     }
 }
 
@@ -151,7 +151,7 @@ fn read_second(rt: &impl Abort, alloc: Global, trays: &mut [MemTray], planes: &m
     assert!(rt; planes[1].tints.len() == 4);
     match read_again(alloc, trays, planes) {
         Ok(()) => End::Read([tints_of(&planes[0]), tints_of(&planes[1])]),
-        Err(stop) => End::Stopped(stop),
+        Err(error) => End::Stopped(error),
     }
 }
 
@@ -192,34 +192,39 @@ fn plates_are_read_twice(rt: HostRuntime) {
 }
 
 // Files of which one is refused: the first of them, in their order.
-const REFUSED: &[([&str; 2], Refusal)] = &[
+const REFUSED: &[([&str; 2], CommonError)] = &[
     (
         ["P5 2 3 9 \x0a\x02\x03\x04\x05\x09", WIDE],
-        Refusal::Plate(0, PlateFault::SampleAboveMaxval(9)),
+        CommonError::Plate(0, PlateFault::SampleAboveMaxval(9)),
     ),
     (
         [
             NARROW,
             "P5 2 3 300 \x00\x01\x00\x02\x00\x03\x01\x2c\x00\x05\x01",
         ],
-        Refusal::Plate(1, PlateFault::Truncated(22)),
+        CommonError::Plate(1, PlateFault::Truncated(22)),
     ),
     (
         ["P5 2 3 9 \x01\x02\x03\x04\x05\x06\x07", "P5 2 3 300 !"],
-        Refusal::Plate(0, PlateFault::TrailingBytes(15)),
+        CommonError::Plate(0, PlateFault::TrailingBytes(15)),
     ),
     (
         [NARROW, "P5 2 262145 9 "],
-        Refusal::Plate(1, PlateFault::SideRange(5)),
+        CommonError::Plate(1, PlateFault::SideRange(5)),
     ),
-    (["P6", "P6"], Refusal::Plate(0, PlateFault::BadMagic(1))),
+    (["P6", "P6"], CommonError::Plate(0, PlateFault::BadMagic(1))),
 ];
 
 #[test]
-fn the_first_fault_of_a_plate_is_told(rt: HostRuntime) {
-    for (place, (files, refusal)) in REFUSED.iter().enumerate() {
+fn the_first_fault_of_a_plate_is_reported(rt: HostRuntime) {
+    for (place, (files, common_error)) in REFUSED.iter().enumerate() {
         let end = end_of(&rt, rt.alloc(), files, None);
-        judge(&rt, end == End::Refused(*refusal), "plates", place as u64);
+        judge(
+            &rt,
+            end == End::Refused(*common_error),
+            "plates",
+            place as u64,
+        );
     }
 }
 
@@ -260,7 +265,7 @@ const CHANGED: &[([&str; 2], End)] = &[
 ];
 
 #[test]
-fn a_plate_that_has_changed_is_told(rt: HostRuntime) {
+fn a_plate_that_has_changed_is_reported(rt: HostRuntime) {
     for (place, (files, want)) in CHANGED.iter().enumerate() {
         let end = end_again(&rt, rt.alloc(), files);
         judge(&rt, end == *want, "plates", place as u64);
@@ -271,16 +276,16 @@ fn a_plate_that_has_changed_is_told(rt: HostRuntime) {
 const CALLS: u64 = 60;
 
 // Whether a call of that tray fails so: in the first reading, or in the second.
-fn is_told(end: End, tray: u32) -> bool {
+fn is_reported(end: End, tray: u32) -> bool {
     match end {
-        End::Refused(refusal) => refusal == Refusal::Read(Some(tray)),
-        End::Stopped(stop) => stop == RereadError::Unread(tray),
+        End::Refused(common_error) => common_error == CommonError::Read(Some(tray)),
+        End::Stopped(error) => error == RereadError::Unread(tray),
         End::Read(rows) => rows == LAST_ROWS,
     }
 }
 
 // Whether it does where that call fails, and both readings end well from call `last` on.
-fn is_told_at(
+fn is_reported_at(
     rt: &(impl Abort + Threads + Sync),
     alloc: Global,
     tray: u32,
@@ -293,21 +298,21 @@ fn is_told_at(
     };
     let end = end_of(rt, alloc, &[NARROW, WIDE], Some(fault));
     let is_read = matches!(end, End::Read(_));
-    is_told(end, tray) && is_read == (call >= last)
+    is_reported(end, tray) && is_read == (call >= last)
 }
 
 #[test]
-fn each_read_that_fails_is_told_of_its_plate(rt: HostRuntime) {
+fn each_read_that_fails_is_reported_of_its_plate(rt: HostRuntime) {
     for call in 0..CALLS {
         judge(
             &rt,
-            is_told_at(&rt, rt.alloc(), 0, call, 27),
+            is_reported_at(&rt, rt.alloc(), 0, call, 27),
             "tray 0",
             call,
         );
         judge(
             &rt,
-            is_told_at(&rt, rt.alloc(), 1, call, 36),
+            is_reported_at(&rt, rt.alloc(), 1, call, 36),
             "tray 1",
             call,
         );

@@ -1,11 +1,11 @@
 ghost use Rattle.std.specs.Prelude.{◌≡◌, length};
 
 use super::devices::{Fault, judge, racks_of};
+use common_errors::common::CommonError;
 use outside::mem_rack::MemRack;
 use pgm_plates::rows::Header;
 use plate_rows::images::{begin_images, end_images, write_next};
 use plate_rows::laws::writing_goes_on;
-use refusals::refusal::Refusal;
 use std::alloc::Global;
 use std::process::Abort;
 
@@ -27,7 +27,7 @@ const FILES: [&[u8]; 2] = [
 ];
 
 // Writes two plates, a row of both at a time.
-fn write_both(racks: &mut [MemRack]) -> Result<(), Refusal>
+fn write_both(racks: &mut [MemRack]) -> Result<(), CommonError>
     requires { length racks.old ≡ 2 }
 {
     writing_goes_on();
@@ -41,7 +41,7 @@ fn write_both(racks: &mut [MemRack]) -> Result<(), Refusal>
 // How the writing ends: whether it was done or of which plate a call failed, and how many bytes of each file stand.
 #[derive(Clone, Copy, PartialEq, Eq)]
 struct End {
-    stop: Option<Refusal>,
+    error: Option<CommonError>,
     lengths: [Option<usize>; 2],
 }
 
@@ -55,9 +55,9 @@ fn length_on(rack: &MemRack, whole: &[u8]) -> Option<usize> {
 
 fn end_of_writing(rt: &impl Abort, racks: &mut [MemRack]) -> End {
     assert!(rt; racks.len() == 2);
-    let stop = write_both(racks).err();
+    let error = write_both(racks).err();
     End {
-        stop,
+        error,
         lengths: [
             length_on(&racks[0], FILES[0]),
             length_on(&racks[1], FILES[1]),
@@ -73,7 +73,7 @@ fn end_of(rt: &impl Abort, alloc: Global, fault: Option<Fault>) -> End {
 #[test]
 fn plates_are_written_by_rows(rt: HostRuntime) {
     let whole = End {
-        stop: None,
+        error: None,
         lengths: [Some(FILES[0].len()), Some(FILES[1].len())],
     };
     judge(&rt, end_of(&rt, rt.alloc(), None) == whole, "plates", 2);
@@ -95,7 +95,7 @@ const FAILS: [(u32, u64, [Option<usize>; 2]); 11] = [
 ];
 
 // Whether it ends so where that call of the plate's rack fails.
-fn is_told_at(
+fn is_reported_at(
     rt: &impl Abort,
     alloc: Global,
     plate: u32,
@@ -106,14 +106,14 @@ fn is_told_at(
         device: plate as usize,
         call,
     };
-    let stop = Some(Refusal::Write(Some(plate)));
-    end_of(rt, alloc, Some(fault)) == End { stop, lengths }
+    let error = Some(CommonError::Write(Some(plate)));
+    end_of(rt, alloc, Some(fault)) == End { error, lengths }
 }
 
 #[test]
-fn each_write_that_fails_is_told_of_its_plate(rt: HostRuntime) {
+fn each_write_that_fails_is_reported_of_its_plate(rt: HostRuntime) {
     for (plate, call, lengths) in FAILS {
-        let is = is_told_at(&rt, rt.alloc(), plate, call, lengths);
+        let is = is_reported_at(&rt, rt.alloc(), plate, call, lengths);
         judge(&rt, is, "call", call);
     }
 }

@@ -1,8 +1,8 @@
 // Random pages, cut into windows of a few samples: whatever the cut, the files are those of the page in one window.
 
 use super::{NARROW, Pieces, WIDE, case_of, run};
-use sheet_geometry::budget::Budget;
 use outside::mem_rack::MemRack;
+use sheet_geometry::budget::Budget;
 use std::alloc::{AllocError, Global};
 use std::process::Abort;
 use std::test::Fail;

@@ -2,8 +2,8 @@ use super::{
     BOTH_CYAN_DOWN, BOTH_MAGENTA_DOWN, CYAN_DOWN, Case, DOWN_REPORT, Fault, MAGENTA_DOWN, NARROW,
     Pieces, WIDE, case_of, run,
 };
-use sheet_geometry::budget::Budget;
 use outside::mem_rack::MemRack;
+use sheet_geometry::budget::Budget;
 use std::alloc::{AllocError, Global};
 use std::process::Abort;
 use std::test::Fail;
@@ -131,8 +131,8 @@ fn files_on(racks: &[MemRack]) -> usize {
 }
 
 fn line_of(lines: &[&str], racks: &[MemRack]) -> Option<usize> {
-    let told = racks.first()?.told();
-    lines.iter().position(|line| line.as_bytes() == told)
+    let reported = racks.first()?.reported();
+    lines.iter().position(|line| line.as_bytes() == reported)
 }
 
 fn is_done(tried: Tried<'_>, status: u8, racks: &[MemRack]) -> bool {

@@ -54,10 +54,10 @@ fn end_so(
     ends(rt, alloc, case, wanted)
 }
 
-fn refusal_with(status: u8, told: &str) -> Wanted<'_> {
+fn error_with(status: u8, reported: &str) -> Wanted<'_> {
     Wanted {
         status,
-        told,
+        reported,
         plates: &[],
         report: None,
     }
@@ -67,7 +67,7 @@ fn refusal_with(status: u8, told: &str) -> Wanted<'_> {
 fn words_that_mean_no_sheet_are_refused(rt: HostRuntime) -> Result<(), Fail> {
     for words in WRONG {
         assert!(rt;
-            end_so(&rt, rt.alloc(), words, refusal_with(2, USAGE))?,
+            end_so(&rt, rt.alloc(), words, error_with(2, USAGE))?,
             "{words}"
         );
     }
@@ -78,7 +78,7 @@ fn words_that_mean_no_sheet_are_refused(rt: HostRuntime) -> Result<(), Fail> {
 fn a_file_that_is_not_there_is_a_read_fault(rt: HostRuntime) -> Result<(), Fail> {
     for (words, line) in MISSING {
         assert!(rt;
-            end_so(&rt, rt.alloc(), words, refusal_with(5, line))?,
+            end_so(&rt, rt.alloc(), words, error_with(5, line))?,
             "{words}"
         );
     }
@@ -89,7 +89,7 @@ fn a_file_that_is_not_there_is_a_read_fault(rt: HostRuntime) -> Result<(), Fail>
 fn other_words_mean_a_sheet(rt: HostRuntime) -> Result<(), Fail> {
     let wanted = Wanted {
         status: 0,
-        told: "",
+        reported: "",
         plates: &[CYAN, MAGENTA],
         report: Some(UNTRAPPED_REPORT),
     };

@@ -45,7 +45,7 @@ fn sheets_are_trapped_as_pages_are(rt: HostRuntime) -> Result<(), Fail> {
             let case = case_of(job, &[&[CYAN], &[MAGENTA]], *windows);
             let wanted = Wanted {
                 status: 0,
-                told: "",
+                reported: "",
                 plates,
                 report: Some(report),
             };
@@ -62,7 +62,7 @@ fn the_workers_change_nothing(rt: HostRuntime) -> Result<(), Fail> {
         case.words = words;
         let wanted = Wanted {
             status: 0,
-            told: "",
+            reported: "",
             plates: &[TRAPPED_CYAN, TRAPPED_MAGENTA],
             report: Some(TRAPPED_REPORT),
         };
@@ -77,7 +77,7 @@ fn strips_make_the_sheet(rt: HostRuntime) -> Result<(), Fail> {
         let case = case_of(&[INKS, SPREAD], &[&[CYAN_DOWN], &[MAGENTA_DOWN]], *windows);
         let wanted = Wanted {
             status: 0,
-            told: "",
+            reported: "",
             plates: &[BOTH_CYAN_DOWN, BOTH_MAGENTA_DOWN],
             report: Some(DOWN_REPORT),
         };

@@ -19,5 +19,5 @@ returns-clause-slots c = grind (arith, common_steps)
 pub returns-clause-seat : goal.returns-clause-seat
 returns-clause-seat c = grind (arith, common_steps)
 
-pub returns-clause-told : goal.returns-clause-told
-returns-clause-told c = grind (arith, common_steps)
+pub returns-clause-reported : goal.returns-clause-reported
+returns-clause-reported c = grind (arith, common_steps)

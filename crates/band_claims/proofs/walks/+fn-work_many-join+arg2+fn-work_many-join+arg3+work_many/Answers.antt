@@ -22,8 +22,8 @@ pub returns-clause-published : goal.returns-clause-published
 returns-clause-published g t c =
     rw c.join.ensures.joined (publishes_joined c.args.pass.view c.join-one.result.0.view c.join-one.result.1.view (subst (λ (v : View). Publishes v c.join-one.result.0.view) c.split-one.ensures.kept c.join-one.ensures.first.1.1.0))
 
-pub returns-clause-told : goal.returns-clause-told
-returns-clause-told g t c =
+pub returns-clause-reported : goal.returns-clause-reported
+returns-clause-reported g t c =
     rw c.join.ensures.joined (subst (λ (v : View). Recalls v c.join-one.result.0.view) c.split-one.ensures.kept c.join-one.ensures.first.1.1.1.0)
 
 pub returns-clause-share : goal.returns-clause-share

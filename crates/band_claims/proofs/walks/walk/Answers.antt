@@ -19,11 +19,11 @@ loop-piece-preserved g c =
     let bands = c.args.shared.now.table_key.layout.bands in elim c.if-visit.branch [
       | then-visit w ↦ (let t = c.visit.ensures.made w.if-visit.true in record {
         maker = c.visit.ensures.maker;
-        room = c.visit.ensures.room ∙ i.room;
+        workspace = c.visit.ensures.workspace ∙ i.workspace;
         pass = c.visit.ensures.pass;
         idle = t.idle;
         published = publishes_made c.loop-piece.piece u v x i.published t;
-        told = recalls_more u v x i.told t.told;
+        reported = recalls_more u v x i.reported t.reported;
         share = t.share ∙ i.share;
         few = λ _. few_published n x (c.visit.ensures.fair w.if-visit.true);
         more = λ _. longer_made c.loop-piece.piece u v x i.published t;
@@ -31,11 +31,11 @@ loop-piece-preserved g c =
       })
       | else-visit w ↦ (let t = c.visit.ensures.lost w.if-visit.false in let same = still bands c.loop-piece.piece v x t in record {
         maker = c.visit.ensures.maker;
-        room = c.visit.ensures.room ∙ i.room;
+        workspace = c.visit.ensures.workspace ∙ i.workspace;
         pass = c.visit.ensures.pass;
         idle = still_idle bands c.loop-piece.piece v x t i.idle;
         published = (i.published.0, same ∙ i.published.1);
-        told = recalls_more u v x i.told t.looks.more_told;
+        reported = recalls_more u v x i.reported t.looks.more_reported;
         share = t.looks.same_share ∙ i.share;
         few = λ h. rw same (i.few (sym w.won-is ∙ h));
         more = λ h. rw same (i.more (sym w.won-is ∙ h));

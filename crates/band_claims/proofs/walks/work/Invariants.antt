@@ -9,11 +9,11 @@ use Rattle.band_claims.proofs.walks.work.Given as goal
 abbrev pub invariant-loop-won : goal.invariant-loop-won
 invariant-loop-won g l = record {
   maker : g.M.Maker.serves l.maker l.shared.table_key;
-  room : g.M.Maker.room l.maker ≡ g.M.Maker.room l.initial.maker;
+  workspace : g.M.Maker.workspace l.maker ≡ g.M.Maker.workspace l.initial.maker;
   pass : Seats l.shared l.pass;
-  idle : l.pass.view.held ≡ None;
+  idle : l.pass.view.stored ≡ None;
   published : Publishes l.initial.pass.view l.pass.view;
-  told : Recalls l.initial.pass.view l.pass.view;
+  reported : Recalls l.initial.pass.view l.pass.view;
   share : l.pass.view.share ≡ l.initial.pass.view.share;
   accounted : l.won ≡ false → (i : ℕ) → i < pieces_of l.shared.table_key.layout.bands → IsAccounted l.shared.table_key.layout.bands l.pass.view i;
 }

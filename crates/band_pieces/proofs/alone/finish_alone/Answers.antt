@@ -6,7 +6,7 @@ use Rattle.std.specs.Prelude.{◌==◌}
 use Rattle.band_claims.specs.Rule.{piece_word}
 use Rattle.band_claims.specs.Views.{one_if}
 use Rattle.band_claims.specs.declared.table_key.TableKey.{TableKey}
-use Rattle.band_pieces.specs.Room.{Memory}
+use Rattle.band_pieces.specs.Workspace.{Memory}
 use Rattle.band_pieces.proofs.Finishing.{alone_once, cells_all, finished_more, finished_none}
 use Rattle.band_pieces.proofs.alone.finish_alone.Goals as goal
 
@@ -68,11 +68,11 @@ returns-clause-seen_stays c = c.loop-piece.invariant.closed.lists.seen
 pub returns-clause-looked_stays : goal.returns-clause-looked_stays
 returns-clause-looked_stays c = c.loop-piece.invariant.closed.lists.looked
 
-pub returns-clause-told_stays : goal.returns-clause-told_stays
-returns-clause-told_stays c = c.loop-piece.invariant.closed.lists.told
+pub returns-clause-reported_stays : goal.returns-clause-reported_stays
+returns-clause-reported_stays c = c.loop-piece.invariant.closed.lists.reported
 
 pub returns-clause-left_stays : goal.returns-clause-left_stays
 returns-clause-left_stays c = c.loop-piece.invariant.closed.lists.left
 
-pub returns-clause-room_stays : goal.returns-clause-room_stays
-returns-clause-room_stays c = c.loop-piece.invariant.closed.lists.room
+pub returns-clause-workspace_stays : goal.returns-clause-workspace_stays
+returns-clause-workspace_stays c = c.loop-piece.invariant.closed.lists.workspace

@@ -34,4 +34,4 @@ pub returns-clause-finished : goal.returns-clause-finished
 returns-clause-finished c =
     let key = c.args.closed.now.table_key in let fit = c.table_key-whole.ensures.fits in let wide = c.table_key-whole.ensures.wide in let f = c.fill_piece.ensures.filled in
     finished_now c.args.closed.now c.fill_piece.new.seat c.set_done.new.self c.args.piece fit wide c.requires.piece (λ e. c.if-state-eq2.false (c.state.ensures ∙ e)) c.requires.cells f
-    (record { table_key = c.set_done.ensures.table_key; lists = record { published = c.set_done.ensures.published; seen = c.set_done.ensures.seen; looked = c.set_done.ensures.looked; told = c.set_done.ensures.told; left = c.set_done.ensures.left; room = c.set_done.ensures.room }; words = c.set_done.ensures.words; alone = c.set_done.ensures.alone })
+    (record { table_key = c.set_done.ensures.table_key; lists = record { published = c.set_done.ensures.published; seen = c.set_done.ensures.seen; looked = c.set_done.ensures.looked; reported = c.set_done.ensures.reported; left = c.set_done.ensures.left; workspace = c.set_done.ensures.workspace }; words = c.set_done.ensures.words; alone = c.set_done.ensures.alone })

@@ -27,7 +27,7 @@ returns c =
     let word = c.requires.word in
     record {
       table_key = ap (λ z. z.table_key) s;
-      lists = record { published = ap (λ z. z.published) s; seen = ap (λ z. z.seen) s; looked = ap (λ z. z.looked) s; told = ap (λ z. z.told) s; left = ap (λ z. z.left) s; room = ap (λ z. z.room) s };
+      lists = record { published = ap (λ z. z.published) s; seen = ap (λ z. z.seen) s; looked = ap (λ z. z.looked) s; reported = ap (λ z. z.reported) s; left = ap (λ z. z.left) s; workspace = ap (λ z. z.workspace) s };
       alone = ap (λ z. z.alone) s;
       words = ap (λ z. z.words) s ∙ (λ i. slice_set c.args.closed.now.words ((shape_of key).pieces + (first i + c.args.o)) (word i));
     }

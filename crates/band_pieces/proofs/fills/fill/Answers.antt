@@ -33,14 +33,14 @@ fill_marks-requires-clause-phase g c = grind (arith, common_steps)
 pub fill_answers-requires-clause-phase : goal.fill_answers-requires-clause-phase
 fill_answers-requires-clause-phase g c = grind (arith, common_steps)
 
-pub fill_tints-requires-clause-room : goal.fill_tints-requires-clause-room
-fill_tints-requires-clause-room g c = grind (arith, common_steps)
+pub fill_tints-requires-clause-workspace : goal.fill_tints-requires-clause-workspace
+fill_tints-requires-clause-workspace g c = grind (arith, common_steps)
 
 pub fill_zones-requires-clause-phase : goal.fill_zones-requires-clause-phase
 fill_zones-requires-clause-phase g c = grind (arith, common_steps)
 
-pub fill_zones-requires-clause-room : goal.fill_zones-requires-clause-room
-fill_zones-requires-clause-room g c = grind (arith, common_steps)
+pub fill_zones-requires-clause-workspace : goal.fill_zones-requires-clause-workspace
+fill_zones-requires-clause-workspace g c = grind (arith, common_steps)
 
 pub nonzero_div-piece : goal.nonzero_div-piece
 nonzero_div-piece g c = grind (arith, common_steps)

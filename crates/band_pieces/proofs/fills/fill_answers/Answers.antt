@@ -14,7 +14,7 @@ use Rattle.std.proofs.Common.{refl}
 use Rattle.band_core.specs.Layouts.{Layout}
 use Rattle.page_model.specs.Bands.{pieces_of}
 use Rattle.page_model.specs.Columns.{halo}
-use Rattle.band_pieces.proofs.Held.{answers_to, made_values, marks_from}
+use Rattle.band_pieces.proofs.Stored.{answers_to, made_values, marks_from}
 use Rattle.band_pieces.proofs.Needed.{marks_near}
 use Rattle.band_pieces.proofs.fills.fill_answers.Goals as goal
 
@@ -24,23 +24,23 @@ read_rows-requires-clause-known g c y from below =
     let rows : c.rows_of-rows.result ≡ rows_of_piece layout.bands i = c.rows_of-rows.ensures.value ∙ ap (λ (z : Bands). rows_of_piece z i) c.bands.ensures.value in
     let tall = ap (λ (z : Bands). z.rows) c.bands-2.ensures.value in let low = ap (λ (z : Bands). z.height) c.bands.ensures.value in
     let reach = ap (λ (z : Bands). halo z.reach2) c.bands-2.ensures.value in
-    let held = c.rows_near-held.ensures in let first = ap (λ (z : Rows). z.first) rows in
-    c.requires.known _ (marks_near layout.bands c.requires.lies.made.bands i y (omega (arith, below, held.inside, tall)) c.requires.phase (omega (arith, from, held.near_above, first, reach)) (omega (arith, below, held.near_under, first, c.rows_of-rows.ensures.few, low, reach)))
+    let stored = c.rows_near-stored.ensures in let first = ap (λ (z : Rows). z.first) rows in
+    c.requires.known _ (marks_near layout.bands c.requires.lies.made.bands i y (omega (arith, below, stored.inside, tall)) c.requires.phase (omega (arith, from, stored.near_above, first, reach)) (omega (arith, below, stored.near_under, first, c.rows_of-rows.ensures.few, low, reach)))
 
 pub make_answers-requires-clause-marks : goal.make_answers-requires-clause-marks
 make_answers-requires-clause-marks g c =
-    marks_from c.args.page.now c.args.layout.now c.rows_near-held.result c.read_rows.new.out c.requires.lies.wide (subst (λ (p : PageParts). HoldsRows (per_row c.args.layout.now 1) (row_value p 1) c.rows_near-held.result c.read_rows.new.out) (sym c.requires.page) c.read_rows.ensures.rows)
+    marks_from c.args.page.now c.args.layout.now c.rows_near-stored.result c.read_rows.new.out c.requires.lies.wide (subst (λ (p : PageParts). HoldsRows (per_row c.args.layout.now 1) (row_value p 1) c.rows_near-stored.result c.read_rows.new.out) (sym c.requires.page) c.read_rows.ensures.rows)
 
 pub make_answers-requires-clause-far_above : goal.make_answers-requires-clause-far_above
 make_answers-requires-clause-far_above g c row l =
     let reach = sym c.requires.lies.reach ∙ sym (ap (λ (z : Bands). z.reach2) c.bands-2.ensures.value) in
-    c.rows_near-held.ensures.far_above row (subst (λ (z : ℕ). c.rows_of-rows.result.first ≤ row + halo z) reach l)
+    c.rows_near-stored.ensures.far_above row (subst (λ (z : ℕ). c.rows_of-rows.result.first ≤ row + halo z) reach l)
 
 pub make_answers-requires-clause-far_under : goal.make_answers-requires-clause-far_under
 make_answers-requires-clause-far_under g c row inside l =
     let reach = sym c.requires.lies.reach ∙ sym (ap (λ (z : Bands). z.reach2) c.bands-2.ensures.value) in
     let tall = sym c.requires.lies.tall ∙ sym (ap (λ (z : Bands). z.rows) c.bands-2.ensures.value) in
-    c.rows_near-held.ensures.far_under row (omega (arith, inside, tall)) (subst (λ (z : ℕ). row < c.rows_of-rows.result.first + c.rows_of-rows.result.count + halo z) reach l)
+    c.rows_near-stored.ensures.far_under row (omega (arith, inside, tall)) (subst (λ (z : ℕ). row < c.rows_of-rows.result.first + c.rows_of-rows.result.count + halo z) reach l)
 
 pub put_values-requires-clause-values : goal.put_values-requires-clause-values
 put_values-requires-clause-values g c =
@@ -87,8 +87,8 @@ make_answers-requires-clause-out g c = grind (arith, common_steps)
 pub make_answers-requires-clause-inside : goal.make_answers-requires-clause-inside
 make_answers-requires-clause-inside g c = grind (arith, common_steps)
 
-pub make_answers-requires-clause-held : goal.make_answers-requires-clause-held
-make_answers-requires-clause-held g c = grind (arith, common_steps)
+pub make_answers-requires-clause-stored : goal.make_answers-requires-clause-stored
+make_answers-requires-clause-stored g c = grind (arith, common_steps)
 
 pub read_rows-requires-clause-inside : goal.read_rows-requires-clause-inside
 read_rows-requires-clause-inside g c = search rules
@@ -102,11 +102,11 @@ returns-clause-answers g c = grind (arith, common_steps)
 pub rows_of-rows-requires-clause-piece : goal.rows_of-rows-requires-clause-piece
 rows_of-rows-requires-clause-piece g c = grind (arith, common_steps)
 
-pub rows_near-held-requires-clause-inside : goal.rows_near-held-requires-clause-inside
-rows_near-held-requires-clause-inside g c = grind (arith, common_steps)
+pub rows_near-stored-requires-clause-inside : goal.rows_near-stored-requires-clause-inside
+rows_near-stored-requires-clause-inside g c = grind (arith, common_steps)
 
 pub rows_of-rows-requires-clause-bands : goal.rows_of-rows-requires-clause-bands
 rows_of-rows-requires-clause-bands g c = grind (arith, common_steps)
 
-pub rows_near-held-requires-clause-bands : goal.rows_near-held-requires-clause-bands
-rows_near-held-requires-clause-bands g c = grind (arith, common_steps)
+pub rows_near-stored-requires-clause-bands : goal.rows_near-stored-requires-clause-bands
+rows_near-stored-requires-clause-bands g c = grind (arith, common_steps)

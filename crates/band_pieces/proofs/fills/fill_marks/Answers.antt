@@ -12,7 +12,7 @@ use Rattle.std.proofs.lemmas.Grind.{common_steps}
 use Rattle.std.proofs.Common.{refl}
 use Rattle.band_core.specs.Layouts.{Layout}
 use Rattle.page_model.specs.Bands.{pieces_of}
-use Rattle.band_pieces.proofs.Held.{made_values, marks_to, zones_from}
+use Rattle.band_pieces.proofs.Stored.{made_values, marks_to, zones_from}
 use Rattle.band_pieces.proofs.Needed.{zones_below}
 use Rattle.band_pieces.proofs.fills.fill_marks.Goals as goal
 
@@ -21,12 +21,12 @@ read_rows-requires-clause-known g c y from below =
     let layout = c.args.layout.now in let i : ℕ = c.args.piece in let key : TableKey = g.C.CellSource.table_key c.args.table.now c.args.seat.now in
     let rows : c.rows_of-rows.result ≡ rows_of_piece layout.bands i = c.rows_of-rows.ensures.value ∙ ap (λ (z : Bands). rows_of_piece z i) c.bands.ensures.value in
     let tall = ap (λ (z : Bands). z.rows) c.bands-2.ensures.value in let low = ap (λ (z : Bands). z.height) c.bands.ensures.value in
-    let held = c.rows_below-held.ensures in let first = ap (λ (z : Rows). z.first) rows in
-    c.requires.known _ (zones_below layout.bands c.requires.lies.made.bands i y (omega (arith, below, held.inside, tall)) c.requires.phase (omega (arith, from, held.first, first)) (omega (arith, below, held.first, held.few, first, c.rows_of-rows.ensures.few, low)))
+    let stored = c.rows_below-stored.ensures in let first = ap (λ (z : Rows). z.first) rows in
+    c.requires.known _ (zones_below layout.bands c.requires.lies.made.bands i y (omega (arith, below, stored.inside, tall)) c.requires.phase (omega (arith, from, stored.first, first)) (omega (arith, below, stored.first, stored.few, first, c.rows_of-rows.ensures.few, low)))
 
 pub make_marks-requires-clause-zones : goal.make_marks-requires-clause-zones
 make_marks-requires-clause-zones g c =
-    zones_from c.args.page.now c.args.layout.now c.rows_below-held.result c.read_rows.new.out c.requires.lies.wide (subst (λ (p : PageParts). HoldsRows (per_row c.args.layout.now 0) (row_value p 0) c.rows_below-held.result c.read_rows.new.out) (sym c.requires.page) c.read_rows.ensures.rows)
+    zones_from c.args.page.now c.args.layout.now c.rows_below-stored.result c.read_rows.new.out c.requires.lies.wide (subst (λ (p : PageParts). HoldsRows (per_row c.args.layout.now 0) (row_value p 0) c.rows_below-stored.result c.read_rows.new.out) (sym c.requires.page) c.read_rows.ensures.rows)
 
 pub put_values-requires-clause-values : goal.put_values-requires-clause-values
 put_values-requires-clause-values g c =
@@ -76,8 +76,8 @@ make_marks-requires-clause-inside g c = grind (arith, common_steps)
 pub make_marks-requires-clause-below : goal.make_marks-requires-clause-below
 make_marks-requires-clause-below g c = grind (arith, common_steps)
 
-pub make_marks-requires-clause-held : goal.make_marks-requires-clause-held
-make_marks-requires-clause-held g c = grind (arith, common_steps)
+pub make_marks-requires-clause-stored : goal.make_marks-requires-clause-stored
+make_marks-requires-clause-stored g c = grind (arith, common_steps)
 
 pub read_rows-requires-clause-inside : goal.read_rows-requires-clause-inside
 read_rows-requires-clause-inside g c = search rules
@@ -85,11 +85,11 @@ read_rows-requires-clause-inside g c = search rules
 pub rows_of-rows-requires-clause-piece : goal.rows_of-rows-requires-clause-piece
 rows_of-rows-requires-clause-piece g c = grind (arith, common_steps)
 
-pub rows_below-held-requires-clause-bands : goal.rows_below-held-requires-clause-bands
-rows_below-held-requires-clause-bands g c = grind (arith, common_steps)
+pub rows_below-stored-requires-clause-bands : goal.rows_below-stored-requires-clause-bands
+rows_below-stored-requires-clause-bands g c = grind (arith, common_steps)
 
-pub rows_below-held-requires-clause-inside : goal.rows_below-held-requires-clause-inside
-rows_below-held-requires-clause-inside g c = grind (arith, common_steps)
+pub rows_below-stored-requires-clause-inside : goal.rows_below-stored-requires-clause-inside
+rows_below-stored-requires-clause-inside g c = grind (arith, common_steps)
 
 pub rows_of-rows-requires-clause-bands : goal.rows_of-rows-requires-clause-bands
 rows_of-rows-requires-clause-bands g c = grind (arith, common_steps)

@@ -12,7 +12,7 @@ use Rattle.std.proofs.lemmas.Grind.{common_steps}
 use Rattle.std.proofs.Common.{refl}
 use Rattle.band_core.specs.Layouts.{Layout}
 use Rattle.page_model.specs.Bands.{pieces_of}
-use Rattle.band_pieces.proofs.Held.{answers_from, made_values, tints_to, zones_from}
+use Rattle.band_pieces.proofs.Stored.{answers_from, made_values, tints_to, zones_from}
 use Rattle.band_pieces.proofs.Needed.{answers_here, zones_here}
 use Rattle.band_pieces.proofs.fills.fill_tints.Goals as goal
 

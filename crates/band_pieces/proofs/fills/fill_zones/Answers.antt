@@ -4,7 +4,7 @@ use Rattle.std.proofs.lemmas.Grind.{common_steps}
 use Rattle.page_model.specs.declared.bands.Bands.{Bands}
 use Rattle.band_claims.specs.declared.table_key.TableKey.{TableKey}
 use Rattle.band_pieces.specs.Spans.{rows_of_piece}
-use Rattle.band_pieces.proofs.Held.{made_values, zones_to}
+use Rattle.band_pieces.proofs.Stored.{made_values, zones_to}
 use Rattle.band_pieces.proofs.fills.fill_zones.Goals as goal
 
 pub put_values-requires-clause-values : goal.put_values-requires-clause-values

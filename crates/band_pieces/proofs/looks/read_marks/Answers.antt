@@ -5,7 +5,7 @@ use Rattle.page_model.proofs.BandLemmas.{piece_inside, row_in_band}
 use Rattle.band_core.specs.Places.{per_row}
 use Rattle.band_core.specs.Values.{row_value}
 use Rattle.row_values.specs.Rows.{HoldsRows}
-use Rattle.band_pieces.proofs.Held.{lies_for, marks_from}
+use Rattle.band_pieces.proofs.Stored.{lies_for, marks_from}
 use Rattle.band_pieces.proofs.looks.read_marks.Goals as goal
 
 pub read_rows-requires-clause-known : goal.read_rows-requires-clause-known

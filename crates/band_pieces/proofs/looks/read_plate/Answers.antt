@@ -3,7 +3,7 @@ use Rattle.std.proofs.Common.{◌+◌, ◌*◌, ◌/◌, ◌∙◌, ap, sym, ari
 use Rattle.page_model.specs.declared.parts.PageParts.{PageParts}
 use Rattle.page_model.proofs.BandLemmas.{piece_inside, row_in_band}
 use Rattle.band_core.specs.Values.{row_value}
-use Rattle.band_pieces.proofs.Held.{lies_for, plate_value}
+use Rattle.band_pieces.proofs.Stored.{lies_for, plate_value}
 use Rattle.band_pieces.proofs.looks.read_plate.Goals as goal
 
 pub read_plate_row-requires-clause-known : goal.read_plate_row-requires-clause-known

@@ -6,7 +6,7 @@ use Rattle.page_model.proofs.BandLemmas.{piece_inside, row_in_band}
 use Rattle.band_core.specs.Places.{per_row}
 use Rattle.band_core.specs.Values.{row_value}
 use Rattle.row_values.specs.Rows.{HoldsRows}
-use Rattle.band_pieces.proofs.Held.{lies_for, tints_from}
+use Rattle.band_pieces.proofs.Stored.{lies_for, tints_from}
 use Rattle.band_pieces.proofs.looks.read_tints.Goals as goal
 
 pub read_rows-requires-clause-known : goal.read_rows-requires-clause-known

@@ -20,8 +20,8 @@ finish_alone-requires-clause-published c i l = c.close_all-closed.ensures.done i
 pub returns-clause-table_key : goal.returns-clause-table_key
 returns-clause-table_key c = c.finish_alone.ensures.table_key ∙ c.close_all-closed.ensures.table_key
 
-pub returns-clause-room : goal.returns-clause-room
-returns-clause-room c = c.finish_alone.ensures.room_stays ∙ c.close_all-closed.ensures.room
+pub returns-clause-workspace : goal.returns-clause-workspace
+returns-clause-workspace c = c.finish_alone.ensures.workspace_stays ∙ c.close_all-closed.ensures.workspace
 
 pub returns-clause-finished : goal.returns-clause-finished
 returns-clause-finished c =
@@ -32,6 +32,6 @@ returns-clause-finished c =
       done = f.done;
       cells = f.cells;
       once = λ i. each_once c.close_all-closed.result c.finish_alone.new.closed i f.table_key f.published_stays (k.whole c.requires.whole i) (f.alone i);
-      run = was_left c.close_all-closed.result c.finish_alone.new.closed c.args.pass.view k.run k.left c.requires.idle (k.settled c.requires.whole) f.table_key f.left_stays (f.published_stays ∙ k.published) (f.seen_stays ∙ k.seen) (f.looked_stays ∙ k.looked) (f.told_stays ∙ k.told) f.alone;
+      run = was_left c.close_all-closed.result c.finish_alone.new.closed c.args.pass.view k.run k.left c.requires.idle (k.settled c.requires.whole) f.table_key f.left_stays (f.published_stays ∙ k.published) (f.seen_stays ∙ k.seen) (f.looked_stays ∙ k.looked) (f.reported_stays ∙ k.reported) f.alone;
       accounted = λ i l. subst (λ (z : TableKey). IsAccounted z.layout.bands c.args.pass.view i) (sym same) (c.requires.accounted i (subst (λ (z : TableKey). i < (shape_of z).pieces) same l));
     }

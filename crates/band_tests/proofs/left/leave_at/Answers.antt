@@ -5,7 +5,7 @@ use Rattle.std.proofs.Common.{sym, ap, ◌∙◌, subst, arith}
 use Rattle.band_claims.specs.declared.table_key.TableKey.{TableKey}
 use Rattle.band_claims.specs.TableKeys.{IsFit}
 use Rattle.band_claims.specs.Views.{times}
-use Rattle.band_pieces.specs.Room.{Memory}
+use Rattle.band_pieces.specs.Workspace.{Memory}
 use Rattle.band_pieces.proofs.Finishing.{has_cells}
 use Rattle.band_tests.proofs.left.leave_at.Goals as goal
 

@@ -7,5 +7,5 @@ abbrev pub invariant-loop-piece : goal.invariant-loop-piece
 invariant-loop-piece l = record {
   scratch : l.scratch ≡ l.initial.scratch;
   pass : Seats l.shared l.pass;
-  idle : l.pass.view.held ≡ None;
+  idle : l.pass.view.stored ≡ None;
 }

@@ -4,7 +4,7 @@ use Rattle.std.specs.Prelude.{slice_index_or}
 use Rattle.std.proofs.lemmas.List.Elements.{All-append}
 use Rattle.page_model.specs.Page.{plates, width}
 use Rattle.band_core.specs.Layouts.{Layout}
-use Rattle.band_pieces.specs.Room.{Memory}
+use Rattle.band_pieces.specs.Workspace.{Memory}
 use Rattle.band_tests.proofs.made.scratches.Goals as goal
 
 one : (want : Layout) (x : Memory) → x.layout ≡ want → All (λ (z : Memory). z.layout ≡ want) (x ∷ [])

@@ -1,6 +1,6 @@
 use Rattle.std.proofs.Common.{sym, ◌∙◌, arith}
 use Rattle.draw_back.specs.Fields.{entry, scene_of}
-use Rattle.draw_back.proofs.DrawnLemmas.{drawn_alone, drawn_bare}
+use Rattle.draw_back.proofs.DrawnLemmas.{drawn_alone, drawn_outline}
 use Rattle.draw_back.proofs.SourceLemmas.{source_columns, source_free, source_rows, free_is}
 use Rattle.draw_back.proofs.edge.has_edge.Goals as goal
 use Rattle.draw_back.proofs.edge.has_edge.Goals.{then-holds, else-holds}
@@ -17,7 +17,7 @@ returns-then-has_ink c = λ no x begun ended marked.
 
 pub returns-else-has_ink : goal.returns-else-has_ink
 returns-else-has_ink c = λ no x begun ended marked. elim c.if-holds.branch [
-  | then-holds w ↦ drawn_bare (scene_of c.args.field.now c.args.reach.limit) x c.args.y
+  | then-holds w ↦ drawn_outline (scene_of c.args.field.now c.args.reach.limit) x c.args.y
       (sym (w.tints.ensures.each x (omega arith)) ∙ w.has_ink.ensures (sym w.value-is ∙ no) x begun ended)
   | else-holds w ↦ absurd (c.holds.ensures w.if-holds.false x begun ended (c.marks.ensures.each x (omega arith) ∙ marked))
 ]

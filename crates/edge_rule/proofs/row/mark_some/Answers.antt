@@ -23,10 +23,10 @@ returns-else-count-eq0-clause-marks c = λ k low high.
     let count = c.plain_from-count.result in
     let out = c.args.out.now in
     let new = c.mark_plain.new.out in
-    let held : length (take x out) ≡ x = omega (arith, length-take x out, c.requires.column, c.requires.out) in
+    let stored : length (take x out) ≡ x = omega (arith, length-take x out, c.requires.column, c.requires.out) in
     let long : length (take (x + count - x) (drop x out)) ≡ count = omega (arith, length-take (x + count - x) (drop x out), length-drop x out, c.plain_from-count.ensures.inside, c.requires.here.wide, c.requires.out) in
     let inside : k - x < count = omega (arith, low, high) in
-    get_or-append_right (take x out) (new ++ post_of x (x + count - x) out) x k 0 held low
+    get_or-append_right (take x out) (new ++ post_of x (x + count - x) out) x k 0 stored low
     ∙ get_or_append_left new (post_of x (x + count - x) out) 0 (k - x) (omega (arith, inside, long, c.mark_plain.ensures.len))
     ∙ c.mark_plain.ensures.each (k - x) (omega (arith, inside, long))
     ∙ ap (λ (n : ℕ). mark c.args.page.now c.args.y n) (let back : x + (k - x) ≡ k = omega (arith, low) in back)

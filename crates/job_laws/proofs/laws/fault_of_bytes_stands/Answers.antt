@@ -6,5 +6,5 @@ use Rattle.job_laws.proofs.laws.fault_of_bytes_stands.Goals as goal
 pub returns-clause-stands : goal.returns-clause-stands
 returns-clause-stands c = fault-stands
 
-pub returns-clause-told : goal.returns-clause-told
-returns-clause-told c = stands-fault
+pub returns-clause-reported : goal.returns-clause-reported
+returns-clause-reported c = stands-fault

@@ -14,14 +14,14 @@ returns-in-None-operator c =
 pub returns-then-is_showpage : goal.returns-then-is_showpage
 returns-then-is_showpage c =
     let at : call_of (slice_get c.args.objects.now c.loop-place.place) ≡ Some c.in-Some.call = rw c.as_slice-all.ensures at (sym c.in-Some.ensures) in
-    let told = rw c.as_slice-all.ensures at c.show.ensures in
+    let reported = rw c.as_slice-all.ensures at c.show.ensures in
     let same = sym c.loop-place.invariant.same ∙ read_on-job_shown c.args.objects.now c.args.len c.loop-place.state c.loop-place.from c.loop-place.place c.in-Some.call c.in-Some-operator.operator (omega arith) at c.in-Some-operator.is (sym c.is_showpage.ensures ∙ c.if-is_showpage.true) in
-    rw same told
+    rw same reported
 
 pub returns-in-Err : goal.returns-in-Err
 returns-in-Err c =
     let at : call_of (slice_get c.args.objects.now c.loop-place.place) ≡ Some c.in-Some.call = rw c.as_slice-all.ensures at (sym c.in-Some.ensures) in
-    let refused = read_on-refused c.args.objects.now c.args.len c.loop-place.state c.loop-place.from c.loop-place.place c.in-Some.call c.in-Some-operator.operator c.in-Err.refusal (omega arith) at c.in-Some-operator.is (sym c.is_showpage.ensures ∙ c.if-is_showpage.false) c.in-Err.ensures in
+    let refused = read_on-refused c.args.objects.now c.args.len c.loop-place.state c.loop-place.from c.loop-place.place c.in-Some.call c.in-Some-operator.operator c.in-Err.common_error (omega arith) at c.in-Some-operator.is (sym c.is_showpage.ensures ∙ c.if-is_showpage.false) c.in-Err.ensures in
     rw c.loop-place.invariant.same at refused
 
 pub loop-place-preserved : goal.loop-place-preserved

@@ -22,7 +22,7 @@ pub loop-c-preserved : goal.loop-c-preserved
 loop-c-preserved g c =
     let planes = c.args.sheet.now in
     record {
-      room = c.shade_plate.ensures.room;
+      workspace = c.shade_plate.ensures.workspace;
       memory = record {
         row = c.shade_plate.ensures.memory.row ∙ c.loop-c.invariant.memory.row;
         until = c.shade_plate.ensures.memory.until ∙ c.loop-c.invariant.memory.until;
@@ -35,7 +35,7 @@ loop-c-preserved g c =
 pub returns-clause-risk : goal.returns-clause-risk
 returns-clause-risk g c =
     let planes = c.args.sheet.now in
-    let shades = c.loop-c.room.shades.items in
+    let shades = c.loop-c.workspace.shades.items in
     let all : c.loop-c.c ≡ length planes = omega arith in
     c.at_risk.ensures ∙ ap (count_by (λ (s : ℕ). nat_eq s 1)) c.as_slice.ensures.value
     ∙ risk_by planes c.args.radius shades (omega arith) (omega arith) (λ x y l m. c.loop-c.invariant.shades x y l m ∙ ap (least_shade planes c.args.radius x y) all)

@@ -17,7 +17,7 @@ loop-x-preserved c =
     let up : bared_until (is_clear row) r (x + lead + 1) ≡ (if is_clear row (x + lead) then x + lead + r + 1 else bared_until (is_clear row) r (x + lead)) = bared_until-next (is_clear row) r (x + lead) in
     let order : x + 1 + lead ≡ x + lead + 1 = omega arith in
     let reach : c.if-row-x-eq2.reach ≡ bared_until (is_clear row) r (x + lead + 1) = grind (arith, nat_tests) in
-    let held = c.loop-x.invariant.later x (omega arith) in
+    let stored = c.loop-x.invariant.later x (omega arith) in
     let here : c.if-x-reach.until ≡ (if nat_lt x (bared_until (is_clear row) r (x + lead + 1)) then c.args.value else slice_index c.args.until.now x) = grind (arith, nat_tests) in
     let lt : x < length c.loop-x.until = omega arith in
     record {

@@ -35,8 +35,8 @@ loop-piece-smaller g c = grind (arith, common_steps)
 pub slice_bounds-extend_from_slice-end : goal.slice_bounds-extend_from_slice-end
 slice_bounds-extend_from_slice-end g c = grind (arith, common_steps)
 
-pub returns-in-Err-extend_from_slice-clause-cause : goal.returns-in-Err-extend_from_slice-clause-cause
-returns-in-Err-extend_from_slice-clause-cause g c = grind (arith, common_steps)
+pub returns-in-Err-extend_from_slice-clause-reason : goal.returns-in-Err-extend_from_slice-clause-reason
+returns-in-Err-extend_from_slice-clause-reason g c = grind (arith, common_steps)
 
 pub returns-in-Ok-eq0-clause-left : goal.returns-in-Ok-eq0-clause-left
 returns-in-Ok-eq0-clause-left g c = grind (arith, common_steps)

@@ -9,7 +9,7 @@ loop-done-init g c = record {
   keeps = search rules;
   asked = search rules;
   finished = search rules;
-  told = search rules;
+  reported = search rules;
   is_open = search rules;
   current = search rules;
   files = λ tells. grows_none c.args.piece.now (g.R.Rack.state c.args.rack.now);
@@ -24,7 +24,7 @@ loop-done-preserved g c =
       keeps = search rules;
       asked = search rules;
       finished = search rules;
-      told = search rules;
+      reported = search rules;
       is_open = search rules;
       current = search rules;
       files = λ tells.
@@ -37,7 +37,7 @@ loop-done-preserved g c =
 pub returns-in-Err : goal.returns-in-Err
 returns-in-Err g c =
     let here = c.loop-done.invariant in
-    write_failed c.args.piece.now (take (length c.args.piece.now - c.loop-done.done) (drop c.loop-done.done c.args.piece.now)) c.loop-done.done (g.R.Rack.state c.args.rack.now) (g.R.Rack.state c.loop-done.rack) (g.R.Rack.state c.write.new.self) _ _ here.keeps here.asked here.finished here.well here.told here.is_open here.current here.files c.in-Err.ensures
+    write_failed c.args.piece.now (take (length c.args.piece.now - c.loop-done.done) (drop c.loop-done.done c.args.piece.now)) c.loop-done.done (g.R.Rack.state c.args.rack.now) (g.R.Rack.state c.loop-done.rack) (g.R.Rack.state c.write.new.self) _ _ here.keeps here.asked here.finished here.well here.reported here.is_open here.current here.files c.in-Err.ensures
 
 pub returns : goal.returns
 returns g c =
@@ -46,12 +46,12 @@ returns g c =
       keeps = here.keeps;
       asked = here.asked;
       finished = here.finished;
-      told = here.told;
+      reported = here.reported;
       is_open = here.is_open;
       current = here.current;
       files = λ tells. grows_all c.args.piece.now c.loop-done.done (g.R.Rack.state c.args.rack.now) (g.R.Rack.state c.loop-done.rack) (omega arith) (here.files tells);
       part = tt;
       well = here.well;
-      cause = tt;
+      reason = tt;
       once = tt;
     }

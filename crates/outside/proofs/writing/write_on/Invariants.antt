@@ -9,7 +9,7 @@ invariant-loop-done g l = record {
   keeps : KeepsRack (g.R.Rack.state l.fn.rack) (g.R.Rack.state l.rack);
   asked : (g.R.Rack.state l.rack).asked ≡ (g.R.Rack.state l.fn.rack).asked;
   finished : (g.R.Rack.state l.rack).finished ≡ (g.R.Rack.state l.fn.rack).finished;
-  told : IsTrue (g.R.Rack.state l.fn.rack).tells → (g.R.Rack.state l.rack).told ≡ (g.R.Rack.state l.fn.rack).told;
+  reported : IsTrue (g.R.Rack.state l.fn.rack).tells → (g.R.Rack.state l.rack).reported ≡ (g.R.Rack.state l.fn.rack).reported;
   is_open : (g.R.Rack.state l.rack).is_open ≡ (g.R.Rack.state l.fn.rack).is_open;
   current : IsTrue (g.R.Rack.state l.fn.rack).tells → (g.R.Rack.state l.rack).current ≡ (g.R.Rack.state l.fn.rack).current;
   files : IsTrue (g.R.Rack.state l.fn.rack).tells → Grows (take l.done l.piece) (g.R.Rack.state l.fn.rack) (g.R.Rack.state l.rack);

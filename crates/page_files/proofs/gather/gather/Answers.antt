@@ -8,4 +8,4 @@ pub returns-in-Ok : goal.returns-in-Ok
 returns-in-Ok g c = c.gather_plates.ensures c.args.job.now (g.T.Tray.state c.args.tray.now) c.in-Ok.ensures
 
 pub returns-in-Err : goal.returns-in-Err
-returns-in-Err g c = job_refused (record { job = c.args.job.now; names = c.args.names.now; inputs = map g.S.AsStr.text c.args.inputs.now }) (g.T.Tray.state c.args.tray.now) (g.T.Tray.state c.read_job_file.new.tray) c.in-Err.refusal c.in-Err.ensures
+returns-in-Err g c = job_refused (record { job = c.args.job.now; names = c.args.names.now; inputs = map g.S.AsStr.text c.args.inputs.now }) (g.T.Tray.state c.args.tray.now) (g.T.Tray.state c.read_job_file.new.tray) c.in-Err.error c.in-Err.ensures

@@ -9,7 +9,7 @@ returns-in-Ok g c name first reads =
 
 pub returns-in-Err : goal.returns-in-Err
 returns-in-Err g c name first reads =
-    plates_refused (record { job = name; names = c.args.names.now; inputs = map g.S.AsStr.text c.args.inputs.now }) first (g.T.Tray.state c.args.tray.now) (g.T.Tray.state c.read_plates.new.tray) c.args.job reads c.in-Err.refusal (some_inputs g.S.AsStr.text c.args.inputs.now c.requires.some) c.in-Err.ensures
+    plates_refused (record { job = name; names = c.args.names.now; inputs = map g.S.AsStr.text c.args.inputs.now }) first (g.T.Tray.state c.args.tray.now) (g.T.Tray.state c.read_plates.new.tray) c.args.job reads c.in-Err.error (some_inputs g.S.AsStr.text c.args.inputs.now c.requires.some) c.in-Err.ensures
 
 pub assemble_planes-requires-clause-planes : goal.assemble_planes-requires-clause-planes
 assemble_planes-requires-clause-planes g c = can_assemble g.S.AsStr.text c.args.inputs.now (g.T.Tray.state c.args.tray.now) (g.T.Tray.state c.read_plates.new.tray) c.args.names.now c.in-Ok.planes c.requires.some c.requires.few c.requires.named c.in-Ok.ensures

@@ -17,5 +17,5 @@ returns-in-Err-write_file g c =
 
 pub returns-in-Err : goal.returns-in-Err
 returns-in-Err g c =
-    plates_broken (map g.S.AsStr.text c.args.names.now) c.args.planes c.args.report.now c.args.text.now (g.R.Rack.state c.args.rack.now) (g.R.Rack.state c.write_plates.new.rack) c.in-Err.refusal
+    plates_broken (map g.S.AsStr.text c.args.names.now) c.args.planes c.args.report.now c.args.text.now (g.R.Rack.state c.args.rack.now) (g.R.Rack.state c.write_plates.new.rack) c.in-Err.error
     (c.requires.count ∙ sym (length-map c.args.names.now g.S.AsStr.text)) c.in-Err.ensures

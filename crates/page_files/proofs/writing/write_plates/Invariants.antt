@@ -12,6 +12,6 @@ invariant-loop-plane g l = record {
   place : l.place ≡ length l.yielded;
   left : l.fn.planes ≡ l.yielded ++ into_iter_items l.plane-iterator;
   keeps : KeepsRack (g.R.Rack.state l.fn.rack) (g.R.Rack.state l.rack);
-  told : IsTrue (g.R.Rack.state l.fn.rack).tells → (g.R.Rack.state l.rack).told ≡ (g.R.Rack.state l.fn.rack).told;
+  reported : IsTrue (g.R.Rack.state l.fn.rack).tells → (g.R.Rack.state l.rack).reported ≡ (g.R.Rack.state l.fn.rack).reported;
   wrote : WritesAll (plate_files (map g.S.AsStr.text l.names) l.yielded) (g.R.Rack.state l.fn.rack) (g.R.Rack.state l.rack);
 }

@@ -17,7 +17,7 @@ returns-in-Ok-read_raster-clause-answer g c =
 pub returns-in-Err-read_raster-clause-answer : goal.returns-in-Err-read_raster-clause-answer
 returns-in-Err-read_raster-clause-answer g c =
     raster_refused Page (g.T.Tray.state c.args.tray.now) (g.T.Tray.state c.read_header.new.tray) (g.T.Tray.state c.read_raster.new.tray)
-    c.in-Ok.read.0 c.in-Ok.read.1 c.in-Err-read_raster.refusal c.in-Ok.ensures.answer c.in-Err-read_raster.ensures.answer
+    c.in-Ok.read.0 c.in-Ok.read.1 c.in-Err-read_raster.error c.in-Ok.ensures.answer c.in-Err-read_raster.ensures.answer
 
 pub overflow_add-size : goal.overflow_add-size
 overflow_add-size g c = grind (arith, common_steps)

@@ -2,7 +2,7 @@
 use Rattle.std.proofs.lemmas.Grind.{common_steps}
 use Rattle.std.proofs.Common.{ℕ, Option, Ok, Err, IfSome, sym, subst, ◌∙◌, rules, arith}
 use Rattle.pgm_plates.specs.declared.plate.Plate.{Plate}
-use Rattle.pgm_plates.specs.declared.plate.PlateRefusal.{PlateRefusal}
+use Rattle.pgm_plates.specs.declared.plate.PlateError.{PlateError}
 use Rattle.pgm_plates.specs.declared.values.Values.{Values}
 use Rattle.pgm_plates.specs.Images.{PageAnswers, ReadsImage}
 use Rattle.pgm_plates.specs.Planes.{map_ok, map_some}
@@ -22,8 +22,8 @@ loop-preserved g c =
 
 pub returns-in-Err-clause-answer : goal.returns-in-Err-clause-answer
 returns-in-Err-clause-answer g c =
-    subst (λ (r : PlateRefusal). PageAnswers c.args.page (g.T.Tray.state c.args.tray.now) (g.T.Tray.state c.read_image.new.tray) (Err r)) (sym c.further_refusal.ensures)
-    (page_refused (g.T.Tray.state c.args.tray.now) (g.T.Tray.state c.loop.tray) (g.T.Tray.state c.read_image.new.tray) c.args.page c.loop.counter c.loop.start c.in-Err.refusal
+    subst (λ (r : PlateError). PageAnswers c.args.page (g.T.Tray.state c.args.tray.now) (g.T.Tray.state c.read_image.new.tray) (Err r)) (sym c.further_error.ensures)
+    (page_refused (g.T.Tray.state c.args.tray.now) (g.T.Tray.state c.loop.tray) (g.T.Tray.state c.read_image.new.tray) c.args.page c.loop.counter c.loop.start c.in-Err.error
     (omega arith) c.loop.invariant c.in-Err.ensures.answer c.in-Err.ensures.near c.in-Err.ensures.some)
 
 pub returns-in-Err-clause-count : goal.returns-in-Err-clause-count
@@ -31,8 +31,8 @@ returns-in-Err-clause-count g c =
     let a = g.T.Tray.state c.args.tray.now in
     let b = g.T.Tray.state c.loop.tray in
     let d = g.T.Tray.state c.read_image.new.tray in
-    subst (λ (r : PlateRefusal). KeepsCount {T = Option Plate} a d (Err r)) (sym c.further_refusal.ensures)
-    (further_count (Option Plate) (Option Plate) a d c.loop.start c.in-Err.refusal (refused_count (Option (Values × ℕ)) (Option Plate) a b d c.in-Err.refusal c.loop.invariant.well c.in-Err.ensures.count))
+    subst (λ (r : PlateError). KeepsCount {T = Option Plate} a d (Err r)) (sym c.further_error.ensures)
+    (further_count (Option Plate) (Option Plate) a d c.loop.start c.in-Err.error (refused_count (Option (Values × ℕ)) (Option Plate) a b d c.in-Err.error c.loop.invariant.well c.in-Err.ensures.count))
 
 pub returns-in-Ok-None-clause-count : goal.returns-in-Ok-None-clause-count
 returns-in-Ok-None-clause-count g c = c.in-Ok-None.ensures.count ∙ c.loop.invariant.well
@@ -52,9 +52,9 @@ returns-in-Err-read_image-clause-count g c =
     let a = g.T.Tray.state c.args.tray.now in
     let b = g.T.Tray.state c.loop.tray in
     let d = g.T.Tray.state c.read_image-2.new.tray in
-    let refusal = c.in-Err-read_image.refusal in
-    subst (λ (r : PlateRefusal). KeepsCount {T = Option Plate} a d (Err r)) (sym c.further_refusal-in-Err-read_image.ensures)
-    (further_count (Option Plate) (Option Plate) a d c.loop.start refusal (refused_count (Option (Values × ℕ)) (Option Plate) a b d refusal c.loop.invariant.well c.in-Err-read_image.ensures.count))
+    let error = c.in-Err-read_image.error in
+    subst (λ (r : PlateError). KeepsCount {T = Option Plate} a d (Err r)) (sym c.further_error-in-Err-read_image.ensures)
+    (further_count (Option Plate) (Option Plate) a d c.loop.start error (refused_count (Option (Values × ℕ)) (Option Plate) a b d error c.loop.invariant.well c.in-Err-read_image.ensures.count))
 
 pub returns-in-Ok-Some-read_image-clause-answer : goal.returns-in-Ok-Some-read_image-clause-answer
 returns-in-Ok-Some-read_image-clause-answer g c =
@@ -63,8 +63,8 @@ returns-in-Ok-Some-read_image-clause-answer g c =
 
 pub returns-in-Err-read_image-clause-answer : goal.returns-in-Err-read_image-clause-answer
 returns-in-Err-read_image-clause-answer g c =
-    subst (λ (r : PlateRefusal). PageAnswers c.args.page (g.T.Tray.state c.args.tray.now) (g.T.Tray.state c.read_image-2.new.tray) (Err r)) (sym c.further_refusal-in-Err-read_image.ensures)
-    (page_refused (g.T.Tray.state c.args.tray.now) (g.T.Tray.state c.loop.tray) (g.T.Tray.state c.read_image-2.new.tray) c.args.page c.loop.counter c.loop.start c.in-Err-read_image.refusal
+    subst (λ (r : PlateError). PageAnswers c.args.page (g.T.Tray.state c.args.tray.now) (g.T.Tray.state c.read_image-2.new.tray) (Err r)) (sym c.further_error-in-Err-read_image.ensures)
+    (page_refused (g.T.Tray.state c.args.tray.now) (g.T.Tray.state c.loop.tray) (g.T.Tray.state c.read_image-2.new.tray) c.args.page c.loop.counter c.loop.start c.in-Err-read_image.error
     (omega arith) c.loop.invariant c.in-Err-read_image.ensures.answer c.in-Err-read_image.ensures.near c.in-Err-read_image.ensures.some)
 
 pub returns-in-Ok-None-read_image-clause-answer : goal.returns-in-Ok-None-read_image-clause-answer

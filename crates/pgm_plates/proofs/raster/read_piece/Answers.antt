@@ -8,11 +8,11 @@ use Rattle.pgm_plates.proofs.raster.read_piece.Goals as goal
 pub returns-in-Ok-clause-answer : goal.returns-in-Ok-clause-answer
 returns-in-Ok-clause-answer g c =
     let bytes = c.judge_piece.new.bytes in
-    let room : length bytes ≡ length c.args.samples.now * sample_size c.args.maxval = search rules in
+    let workspace : length bytes ≡ length c.args.samples.now * sample_size c.args.maxval = search rules in
     taken_as c.args.maxval (length c.args.samples.now) (g.T.Tray.state c.args.tray.now) (g.T.Tray.state c.judge_piece.new.tray) (samples_spelled c.args.maxval bytes) c.decode.new.samples
-    c.decode.ensures (c.in-Ok.ensures.answer (length c.args.samples.now) room)
+    c.decode.ensures (c.in-Ok.ensures.answer (length c.args.samples.now) workspace)
 
 pub returns-in-Err-clause-answer : goal.returns-in-Err-clause-answer
 returns-in-Err-clause-answer g c =
-    let room : length c.judge_piece.new.bytes ≡ length c.args.samples.now * sample_size c.args.maxval = search rules in
-    c.in-Err.ensures.answer (length c.args.samples.now) room
+    let workspace : length c.judge_piece.new.bytes ≡ length c.args.samples.now * sample_size c.args.maxval = search rules in
+    c.in-Err.ensures.answer (length c.args.samples.now) workspace

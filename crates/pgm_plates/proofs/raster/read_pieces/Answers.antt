@@ -3,7 +3,7 @@ use Rattle.std.proofs.Common.{rules, arith, ◌≡◌, ◌≤◌, ◌*◌, ◌+�
 use Rattle.std.proofs.lemmas.Grind.{common_steps}
 use Rattle.pgm_plates.specs.Plates.{sample_size}
 use Rattle.pgm_plates.proofs.Counts.{refused_count}
-use Rattle.pgm_plates.proofs.ReadValues.{values_all, values_more, values_no_room, values_refused}
+use Rattle.pgm_plates.proofs.ReadValues.{values_all, values_more, values_no_workspace, values_refused}
 use Rattle.pgm_plates.proofs.raster.read_pieces.Goals as goal
 
 pub loop-form-preserved : goal.loop-form-preserved
@@ -19,14 +19,14 @@ loop-form-preserved g c =
 
 pub returns-in-Err-clause-count : goal.returns-in-Err-clause-count
 returns-in-Err-clause-count g c =
-    refused_count (Unit {0}) (Unit {0}) (g.T.Tray.state c.args.tray.now) (g.T.Tray.state c.loop-form.tray) (g.T.Tray.state c.read_values.new.tray) c.in-Err.refusal c.loop-form.invariant.count c.in-Err.ensures.count
+    refused_count (Unit {0}) (Unit {0}) (g.T.Tray.state c.args.tray.now) (g.T.Tray.state c.loop-form.tray) (g.T.Tray.state c.read_values.new.tray) c.in-Err.error c.loop-form.invariant.count c.in-Err.ensures.count
 
 pub returns-in-Err-extend_from_slice-clause-answer : goal.returns-in-Err-extend_from_slice-clause-answer
 returns-in-Err-extend_from_slice-clause-answer g c =
     let xs = c.loop-form.values.items in
     let ys = c.read_values.new.values in
     let few : length xs + length ys ≤ c.args.count = grind (arith, common_steps) in
-    values_no_room c.args.form c.args.maxval c.args.count (length ys) c.args.start (g.T.Tray.state c.args.tray.now) (g.T.Tray.state c.loop-form.tray) (g.T.Tray.state c.read_values.new.tray) xs ys
+    values_no_workspace c.args.form c.args.maxval c.args.count (length ys) c.args.start (g.T.Tray.state c.args.tray.now) (g.T.Tray.state c.loop-form.tray) (g.T.Tray.state c.read_values.new.tray) xs ys
     c.loop-form.invariant.takes few c.in-Ok.ensures.answer
 
 pub returns-in-Err-clause-answer : goal.returns-in-Err-clause-answer
@@ -37,7 +37,7 @@ returns-in-Err-clause-answer g c =
     let same : c.len-done.result ≡ length xs = search rules in
     let at : c.args.start + c.len-done.result * c.sample_size-size.result ≡ c.args.start + length xs * sample_size c.args.maxval =
     ap (λ (n : ℕ). c.args.start + c.len-done.result * n) c.sample_size-size.ensures ∙ ap (λ (n : ℕ). c.args.start + n * sample_size c.args.maxval) same in
-    values_refused c.args.form c.args.maxval c.args.count (length ys) c.args.start (c.args.start + c.len-done.result * c.sample_size-size.result) (g.T.Tray.state c.args.tray.now) (g.T.Tray.state c.loop-form.tray) (g.T.Tray.state c.read_values.new.tray) xs c.in-Err.refusal
+    values_refused c.args.form c.args.maxval c.args.count (length ys) c.args.start (c.args.start + c.len-done.result * c.sample_size-size.result) (g.T.Tray.state c.args.tray.now) (g.T.Tray.state c.loop-form.tray) (g.T.Tray.state c.read_values.new.tray) xs c.in-Err.error
     c.loop-form.invariant.takes c.loop-form.invariant.fit few at c.in-Err.ensures.answer
 
 pub returns-clause-answer : goal.returns-clause-answer

@@ -13,4 +13,4 @@ returns-in-Ok-clause-answer g c =
     (byte, takes_one (g.T.Tray.state c.args.tray.now) (g.T.Tray.state c.read.new.self) c.read.new.buf c.in-Ok.field-0 byte c.in-Ok.ensures (search rules) (search rules) (grind (arith, common_steps)), refl)
 
 pub returns-in-Err-clause-answer : goal.returns-in-Err-clause-answer
-returns-in-Err-clause-answer g c = (takes_failed (g.T.Tray.state c.args.tray.now) (g.T.Tray.state c.read.new.self) c.read.new.buf _ c.in-Err.ensures, c.in-Err.ensures.cause)
+returns-in-Err-clause-answer g c = (takes_failed (g.T.Tray.state c.args.tray.now) (g.T.Tray.state c.read.new.self) c.read.new.buf _ c.in-Err.ensures, c.in-Err.ensures.reason)

@@ -10,18 +10,18 @@ use Rattle.pgm_plates.proofs.reading.read_begun.Goals as goal
 pub returns-in-Err-read_raster-clause-answer : goal.returns-in-Err-read_raster-clause-answer
 returns-in-Err-read_raster-clause-answer g c =
     raster_refused c.args.bounds (g.T.Tray.state c.args.tray.now) (g.T.Tray.state c.read_header.new.tray) (g.T.Tray.state c.read_raster.new.tray)
-    c.in-Ok.read.0 c.in-Ok.read.1 c.in-Err-read_raster.refusal c.in-Ok.ensures.answer c.in-Err-read_raster.ensures.answer
+    c.in-Ok.read.0 c.in-Ok.read.1 c.in-Err-read_raster.error c.in-Ok.ensures.answer c.in-Err-read_raster.ensures.answer
 
 pub returns-in-Err-read_raster-clause-count : goal.returns-in-Err-read_raster-clause-count
 returns-in-Err-read_raster-clause-count g c =
-    refused_count (List ℕ) Plate (g.T.Tray.state c.args.tray.now) (g.T.Tray.state c.read_header.new.tray) (g.T.Tray.state c.read_raster.new.tray) c.in-Err-read_raster.refusal c.in-Ok.ensures.count c.in-Err-read_raster.ensures.count
+    refused_count (List ℕ) Plate (g.T.Tray.state c.args.tray.now) (g.T.Tray.state c.read_header.new.tray) (g.T.Tray.state c.read_raster.new.tray) c.in-Err-read_raster.error c.in-Ok.ensures.count c.in-Err-read_raster.ensures.count
 
 pub returns-in-Ok-end_of_file-clause-count : goal.returns-in-Ok-end_of_file-clause-count
 returns-in-Ok-end_of_file-clause-count g c = c.in-Ok-end_of_file.ensures.count ∙ c.in-Ok-read_raster.ensures.count ∙ c.in-Ok.ensures.count
 
 pub returns-in-Err-end_of_file-clause-count : goal.returns-in-Err-end_of_file-clause-count
 returns-in-Err-end_of_file-clause-count g c =
-    refused_count (Unit {0}) Plate (g.T.Tray.state c.args.tray.now) (g.T.Tray.state c.read_raster.new.tray) (g.T.Tray.state c.end_of_file.new.tray) c.in-Err-end_of_file.refusal
+    refused_count (Unit {0}) Plate (g.T.Tray.state c.args.tray.now) (g.T.Tray.state c.read_raster.new.tray) (g.T.Tray.state c.end_of_file.new.tray) c.in-Err-end_of_file.error
     (c.in-Ok-read_raster.ensures.count ∙ c.in-Ok.ensures.count) c.in-Err-end_of_file.ensures.count
 
 pub returns-in-Ok-end_of_file-clause-answer : goal.returns-in-Ok-end_of_file-clause-answer
@@ -35,7 +35,7 @@ returns-in-Err-end_of_file-clause-answer g c =
     let header = c.in-Ok.read.0 in
     let samples = samples_from c.args.form header.maxval c.in-Ok-read_raster.values in
     end_refused c.args.bounds (g.T.Tray.state c.args.tray.now) (g.T.Tray.state c.read_header.new.tray) (g.T.Tray.state c.read_raster.new.tray) (g.T.Tray.state c.end_of_file.new.tray)
-    header c.in-Ok.read.1 (c.in-Ok.read.1 + header.width * header.height * c.sample_size.result) samples c.in-Err-end_of_file.refusal c.in-Ok.ensures.answer c.in-Ok-read_raster.ensures.answer
+    header c.in-Ok.read.1 (c.in-Ok.read.1 + header.width * header.height * c.sample_size.result) samples c.in-Err-end_of_file.error c.in-Ok.ensures.answer c.in-Ok-read_raster.ensures.answer
     (ap (λ (n : ℕ). c.in-Ok.read.1 + header.width * header.height * n) c.sample_size.ensures) c.in-Err-end_of_file.ensures.answer
 
 pub overflow_add-start : goal.overflow_add-start

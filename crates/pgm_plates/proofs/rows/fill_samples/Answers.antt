@@ -35,12 +35,12 @@ returns-in-Err-clause-answer g c =
     let m = c.args.maxval in
     let count = length (put_mid done (done + want - done) buf part) in
     let few : done + length part ≤ count = grind (arith, common_steps) in
-    filled_refused m count c.args.start (c.args.start + done * c.sample_size-size.result) done (length part) (g.T.Tray.state c.args.tray.now) (g.T.Tray.state c.loop-done.tray) (g.T.Tray.state c.read_piece.new.tray) buf c.in-Err.refusal
+    filled_refused m count c.args.start (c.args.start + done * c.sample_size-size.result) done (length part) (g.T.Tray.state c.args.tray.now) (g.T.Tray.state c.loop-done.tray) (g.T.Tray.state c.read_piece.new.tray) buf c.in-Err.error
     c.loop-done.invariant.within few (ap (λ (n : ℕ). c.args.start + done * n) c.sample_size-size.ensures) c.loop-done.invariant.takes c.loop-done.invariant.fit c.in-Err.ensures.answer
 
 pub returns-in-Err-clause-count : goal.returns-in-Err-clause-count
 returns-in-Err-clause-count g c =
-    refused_count (Unit {0}) (Unit {0}) (g.T.Tray.state c.args.tray.now) (g.T.Tray.state c.loop-done.tray) (g.T.Tray.state c.read_piece.new.tray) c.in-Err.refusal c.loop-done.invariant.count c.in-Err.ensures.count
+    refused_count (Unit {0}) (Unit {0}) (g.T.Tray.state c.args.tray.now) (g.T.Tray.state c.loop-done.tray) (g.T.Tray.state c.read_piece.new.tray) c.in-Err.error c.loop-done.invariant.count c.in-Err.ensures.count
 
 pub overflow_mul-want : goal.overflow_mul-want
 overflow_mul-want g c = grind (arith, common_steps)
@@ -51,8 +51,8 @@ returns-clause-answer g c = grind (arith, common_steps)
 pub loop-done-smaller : goal.loop-done-smaller
 loop-done-smaller g c = grind (arith, common_steps)
 
-pub read_piece-requires-clause-room : goal.read_piece-requires-clause-room
-read_piece-requires-clause-room g c = grind (arith, common_steps)
+pub read_piece-requires-clause-workspace : goal.read_piece-requires-clause-workspace
+read_piece-requires-clause-workspace g c = grind (arith, common_steps)
 
 pub returns-in-Err-clause-memory : goal.returns-in-Err-clause-memory
 returns-in-Err-clause-memory g c = grind (arith, common_steps)

@@ -15,9 +15,9 @@ loop-done-preserved g c =
     let want = c.min-want.result in
     let bytes = c.judge_piece.new.bytes in
     let m = c.args.maxval in
-    let room : length bytes ≡ want * sample_size m = search rules in
+    let workspace : length bytes ≡ want * sample_size m = search rules in
     record {
-      taken = unkept_more m c.loop-done.done want (g.T.Tray.state c.args.tray.now) (g.T.Tray.state c.loop-done.tray) (g.T.Tray.state c.judge_piece.new.tray) (samples_spelled m bytes) c.loop-done.invariant.taken (c.in-Ok.ensures.answer want room);
+      taken = unkept_more m c.loop-done.done want (g.T.Tray.state c.args.tray.now) (g.T.Tray.state c.loop-done.tray) (g.T.Tray.state c.judge_piece.new.tray) (samples_spelled m bytes) c.loop-done.invariant.taken (c.in-Ok.ensures.answer want workspace);
       begun = c.in-Ok.ensures.begun;
       count = c.in-Ok.ensures.count ∙ c.loop-done.invariant.count;
       within = omega arith;
@@ -28,15 +28,15 @@ returns-in-Err-clause-answer g c =
     let done = c.loop-done.done in
     let want = c.min-want.result in
     let m = c.args.maxval in
-    let room : length c.judge_piece.new.bytes ≡ want * sample_size m = search rules in (
+    let workspace : length c.judge_piece.new.bytes ≡ want * sample_size m = search rules in (
       [],
-      unkept_refused m c.args.count done want c.args.start (c.args.start + done * c.sample_size-size.result) (g.T.Tray.state c.args.tray.now) (g.T.Tray.state c.loop-done.tray) (g.T.Tray.state c.judge_piece.new.tray) c.in-Err.refusal
-          (omega arith) (ap (λ (n : ℕ). c.args.start + done * n) c.sample_size-size.ensures) c.loop-done.invariant.taken (c.in-Err.ensures.answer want room),
+      unkept_refused m c.args.count done want c.args.start (c.args.start + done * c.sample_size-size.result) (g.T.Tray.state c.args.tray.now) (g.T.Tray.state c.loop-done.tray) (g.T.Tray.state c.judge_piece.new.tray) c.in-Err.error
+          (omega arith) (ap (λ (n : ℕ). c.args.start + done * n) c.sample_size-size.ensures) c.loop-done.invariant.taken (c.in-Err.ensures.answer want workspace),
     )
 
 pub returns-in-Err-clause-count : goal.returns-in-Err-clause-count
 returns-in-Err-clause-count g c =
-    refused_count (Unit {0}) (Unit {0}) (g.T.Tray.state c.args.tray.now) (g.T.Tray.state c.loop-done.tray) (g.T.Tray.state c.judge_piece.new.tray) c.in-Err.refusal c.loop-done.invariant.count c.in-Err.ensures.count
+    refused_count (Unit {0}) (Unit {0}) (g.T.Tray.state c.args.tray.now) (g.T.Tray.state c.loop-done.tray) (g.T.Tray.state c.judge_piece.new.tray) c.in-Err.error c.loop-done.invariant.count c.in-Err.ensures.count
 
 pub loop-done-smaller : goal.loop-done-smaller
 loop-done-smaller g c = grind (arith, common_steps)

@@ -11,5 +11,5 @@ loop-at-preserved c =
     let at = c.loop-at.at in
     let value = slice_index_or values at 0 in
     let within : at < length c.args.values.now = omega arith in
-    let held : at < length values = omega arith in
-    map_over_more (λ (v : ℕ). c.args.maxval - v) c.args.values.now values at value within c.loop-at.invariant (get_or_default values at 0 value held)
+    let stored : at < length values = omega arith in
+    map_over_more (λ (v : ℕ). c.args.maxval - v) c.args.values.now values at value within c.loop-at.invariant (get_or_default values at 0 value stored)

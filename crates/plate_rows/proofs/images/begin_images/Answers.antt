@@ -18,8 +18,8 @@ loop-place-preserved g c =
     let old = c.index-racks-place.result in
     let new = c.begin_image.new.rack in
     let within : k < length outputs = omega arith in
-    let held : k < length racks = omega arith in
-    created state (map state c.args.racks.now) racks k (length outputs) old new held within (map text outputs) c.args.header c.loop-place.invariant
+    let stored : k < length racks = omega arith in
+    created state (map state c.args.racks.now) racks k (length outputs) old new stored within (map text outputs) c.args.header c.loop-place.invariant
     (subst (λ (n : List ℕ). BeginsImage n c.args.header (state (get_or racks k old)) (state new) (Ok c.in-Ok.field-0)) (c.as_str.ensures ∙ ap text c.index-outputs-place.is ∙ sym (named text outputs k c.index-outputs-place.result within)) c.in-Ok.ensures)
 
 pub returns-in-Err : goal.returns-in-Err
@@ -32,9 +32,9 @@ returns-in-Err g c =
     let old = c.index-racks-place.result in
     let new = c.begin_image.new.rack in
     let within : k < length outputs = omega arith in
-    let held : k < length racks = omega arith in
+    let stored : k < length racks = omega arith in
     let known : k < length (map text outputs) = omega (arith, length-map outputs text) in
-    not_created state (map state c.args.racks.now) racks k (length outputs) old new held within (map text outputs) c.args.header c.in-Err.field-0 known c.loop-place.invariant
+    not_created state (map state c.args.racks.now) racks k (length outputs) old new stored within (map text outputs) c.args.header c.in-Err.field-0 known c.loop-place.invariant
     (subst (λ (n : List ℕ). BeginsImage n c.args.header (state (get_or racks k old)) (state new) (Err c.in-Err.field-0)) (c.as_str.ensures ∙ ap text c.index-outputs-place.is ∙ sym (named text outputs k c.index-outputs-place.result within)) c.in-Err.ensures)
 
 pub returns : goal.returns

@@ -7,14 +7,14 @@ pub loop-place-preserved : goal.loop-place-preserved
 loop-place-preserved g c =
     let racks = c.loop-place.racks in
     let k = c.loop-place.place in
-    let held : k < length racks = omega arith in
+    let stored : k < length racks = omega arith in
     let known : k < c.args.count = omega arith in
-    finished g.R.Rack.state (map g.R.Rack.state c.args.racks.now) racks k c.args.count c.index-racks-place.result c.end_image.new.rack held known c.loop-place.invariant c.in-Ok.ensures
+    finished g.R.Rack.state (map g.R.Rack.state c.args.racks.now) racks k c.args.count c.index-racks-place.result c.end_image.new.rack stored known c.loop-place.invariant c.in-Ok.ensures
 
 pub returns-in-Err : goal.returns-in-Err
 returns-in-Err g c =
     let racks = c.loop-place.racks in
     let k = c.loop-place.place in
-    let held : k < length racks = omega arith in
+    let stored : k < length racks = omega arith in
     let known : k < c.args.count = omega arith in
-    not_finished g.R.Rack.state (map g.R.Rack.state c.args.racks.now) racks k c.args.count c.index-racks-place.result c.end_image.new.rack held known c.in-Err.field-0 c.loop-place.invariant c.in-Err.ensures
+    not_finished g.R.Rack.state (map g.R.Rack.state c.args.racks.now) racks k c.args.count c.index-racks-place.result c.end_image.new.rack stored known c.in-Err.field-0 c.loop-place.invariant c.in-Err.ensures

@@ -14,10 +14,10 @@ loop-place-preserved g c =
     let k = c.loop-place.place in
     let each = c.args.each in
     let old = c.index-racks-place.result in
-    let held : k < length racks = omega arith in
+    let stored : k < length racks = omega arith in
     let known : k < c.args.count = omega arith in
     let size : k * each + each - k * each ≡ each = omega arith in
-    written state (map state c.args.racks.now) racks k c.args.count old c.write_rows.new.rack held known c.args.header (part_at each c.args.tints.now) c.loop-place.invariant
+    written state (map state c.args.racks.now) racks k c.args.count old c.write_rows.new.rack stored known c.args.header (part_at each c.args.tints.now) c.loop-place.invariant
     (subst (λ (n : ℕ). WritesRows c.args.header (take n (drop (k * each) c.args.tints.now)) (state (get_or racks k old)) (state c.write_rows.new.rack) (Ok c.in-Ok.field-0)) size c.in-Ok.ensures.rows)
 
 pub returns-in-Err : goal.returns-in-Err
@@ -27,10 +27,10 @@ returns-in-Err g c =
     let k = c.loop-place.place in
     let each = c.args.each in
     let old = c.index-racks-place.result in
-    let held : k < length racks = omega arith in
+    let stored : k < length racks = omega arith in
     let known : k < c.args.count = omega arith in
     let size : k * each + each - k * each ≡ each = omega arith in
-    not_written state (map state c.args.racks.now) racks k c.args.count old c.write_rows.new.rack held known c.args.header (part_at each c.args.tints.now) c.in-Err.field-0 c.loop-place.invariant
+    not_written state (map state c.args.racks.now) racks k c.args.count old c.write_rows.new.rack stored known c.args.header (part_at each c.args.tints.now) c.in-Err.field-0 c.loop-place.invariant
     (subst (λ (n : ℕ). WritesRows c.args.header (take n (drop (k * each) c.args.tints.now)) (state (get_or racks k old)) (state c.write_rows.new.rack) (Err c.in-Err.field-0)) size c.in-Err.ensures.rows)
 
 pub write_rows-requires-clause-fits : goal.write_rows-requires-clause-fits

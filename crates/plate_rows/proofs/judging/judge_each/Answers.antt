@@ -16,9 +16,9 @@ loop-place-preserved g c =
     let old = c.index-trays-place.result in
     let new = c.judge_plate.new.tray in
     let within : k < length inputs = omega arith in
-    let held : k < length trays = omega arith in
+    let stored : k < length trays = omega arith in
     let shown : k < length c.loop-place.headers = omega arith in
-    one_judged state (map text inputs) c.loop-place.headers (map state c.args.trays.now) trays k old new held c.loop-place.invariant c.in-Ok.header shown
+    one_judged state (map text inputs) c.loop-place.headers (map state c.args.trays.now) trays k old new stored c.loop-place.invariant c.in-Ok.header shown
     (subst (λ (n : List ℕ). JudgesPlate n (state (get_or trays k old)) (state new) (Ok c.in-Ok.header)) (c.as_str.ensures ∙ ap text c.index-inputs-place.is ∙ sym (named text inputs k c.index-inputs-place.result within)) c.in-Ok.ensures.answer)
 
 pub returns-in-Err : goal.returns-in-Err
@@ -31,10 +31,10 @@ returns-in-Err g c =
     let old = c.index-trays-place.result in
     let new = c.judge_plate.new.tray in
     let within : k < length inputs = omega arith in
-    let held : k < length trays = omega arith in
+    let stored : k < length trays = omega arith in
     let known : k < length (map text inputs) = omega (arith, length-map inputs text) in
-    one_refused state (map text inputs) c.loop-place.headers (map state c.args.trays.now) trays k old new held c.loop-place.invariant c.in-Err.refusal known c.in-Err.ensures.memory
-    (subst (λ (n : List ℕ). JudgesPlate n (state (get_or trays k old)) (state new) (Err c.in-Err.refusal)) (c.as_str.ensures ∙ ap text c.index-inputs-place.is ∙ sym (named text inputs k c.index-inputs-place.result within)) c.in-Err.ensures.answer)
+    one_refused state (map text inputs) c.loop-place.headers (map state c.args.trays.now) trays k old new stored c.loop-place.invariant c.in-Err.common_error known c.in-Err.ensures.memory
+    (subst (λ (n : List ℕ). JudgesPlate n (state (get_or trays k old)) (state new) (Err c.in-Err.common_error)) (c.as_str.ensures ∙ ap text c.index-inputs-place.is ∙ sym (named text inputs k c.index-inputs-place.result within)) c.in-Err.ensures.answer)
 
 pub returns : goal.returns
 returns g c = grind (arith, common_steps)

@@ -1,5 +1,5 @@
 -- no_change: a plate whose file the tray tells does not change between two readings.
-use Rattle.plate_rows.proofs.StopLemmas.{no_change}
+use Rattle.plate_rows.proofs.ErrorLemmas.{no_change}
 use Rattle.plate_rows.proofs.laws.no_change.Goals as goal
 
 pub returns : goal.returns

@@ -1,5 +1,5 @@
 -- reading_goes_on: what was read of each plate.
-use Rattle.plate_rows.proofs.StopLemmas.{reading_begins, reading_ends, reading_grows}
+use Rattle.plate_rows.proofs.ErrorLemmas.{reading_begins, reading_ends, reading_grows}
 use Rattle.plate_rows.proofs.laws.reading_goes_on.Goals as goal
 
 pub returns-clause-begins : goal.returns-clause-begins

@@ -20,9 +20,9 @@ loop-place-preserved g c =
     let old = c.index-trays-place.result in
     let new = c.begin_one.new.tray in
     let within : k < length inputs = omega arith in
-    let held : k < length trays = omega arith in
+    let stored : k < length trays = omega arith in
     let shown : k < length c.loop-place.plates = omega arith in
-    one_begun state (map text inputs) headers c.loop-place.plates (map state c.args.trays.now) trays k old new held c.loop-place.invariant c.in-Ok.plate shown
+    one_begun state (map text inputs) headers c.loop-place.plates (map state c.args.trays.now) trays k old new stored c.loop-place.invariant c.in-Ok.plate shown
     (subst (λ (n : List ℕ). BeginsOne n (header_at headers k) k (state (get_or trays k old)) (state new) (Ok c.in-Ok.plate)) (c.as_str.ensures ∙ ap text c.index-inputs-place.is ∙ sym (named text inputs k c.index-inputs-place.result within)) c.in-Ok.ensures)
 
 pub returns-in-Err : goal.returns-in-Err
@@ -36,10 +36,10 @@ returns-in-Err g c =
     let old = c.index-trays-place.result in
     let new = c.begin_one.new.tray in
     let within : k < length inputs = omega arith in
-    let held : k < length trays = omega arith in
+    let stored : k < length trays = omega arith in
     let known : k < length (map text inputs) = omega (arith, length-map inputs text) in
-    begun_stops state (map text inputs) headers c.loop-place.plates (map state c.args.trays.now) trays k old new held c.loop-place.invariant c.in-Err.stop known
-    (subst (λ (n : List ℕ). BeginsOne n (header_at headers k) k (state (get_or trays k old)) (state new) (Err c.in-Err.stop)) (c.as_str.ensures ∙ ap text c.index-inputs-place.is ∙ sym (named text inputs k c.index-inputs-place.result within)) c.in-Err.ensures)
+    begun_stops state (map text inputs) headers c.loop-place.plates (map state c.args.trays.now) trays k old new stored c.loop-place.invariant c.in-Err.error known
+    (subst (λ (n : List ℕ). BeginsOne n (header_at headers k) k (state (get_or trays k old)) (state new) (Err c.in-Err.error)) (c.as_str.ensures ∙ ap text c.index-inputs-place.is ∙ sym (named text inputs k c.index-inputs-place.result within)) c.in-Err.ensures)
 
 pub returns : goal.returns
 returns g c = grind (arith, common_steps)

@@ -54,8 +54,8 @@ returns-in-Err-clause-answer g c =
     let d = g.T.Tray.state c.read_piece.new.tray in
     let now = put_mid filled (filled + want - filled) buf part in
     let few : length (take filled buf) + length part ≤ length now = grind (arith, common_steps) in
-    piece_refused c.args.plate c.args.done (take filled buf) a b c.loop-filled.invariant.read now (length part) d c.in-Err.refusal few
-    (subst (λ (n : ℕ). ReadsSome c.args.plate (c.args.done + n) (length part) b d (Err c.in-Err.refusal)) (sym first) c.in-Err.ensures.answer)
+    piece_refused c.args.plate c.args.done (take filled buf) a b c.loop-filled.invariant.read now (length part) d c.in-Err.common_error few
+    (subst (λ (n : ℕ). ReadsSome c.args.plate (c.args.done + n) (length part) b d (Err c.in-Err.common_error)) (sym first) c.in-Err.ensures.answer)
 
 pub returns-clause-answer : goal.returns-clause-answer
 returns-clause-answer g c =

@@ -1,7 +1,7 @@
 -- What `run` has to show.
 use Rattle.std.proofs.Common.{sym}
 use Rattle.presscheck_cli.specs.Endings.Ends.{check}
-use Rattle.presscheck_cli.specs.Held.{check_in}
+use Rattle.presscheck_cli.specs.Stored.{check_in}
 use Rattle.presscheck_cli.proofs.top.run.Goals as goal
 
 pub returns-in-Some : goal.returns-in-Some

@@ -4,7 +4,7 @@ use Rattle.row_envelope.specs.Hull.{Wins}
 use Rattle.row_envelope.proofs.hull.settle.Given as goal
 
 abbrev pub invariant-loop-left : goal.invariant-loop-left
-invariant-loop-left g l = record { fewer : l.left ≤ l.held; cost : l.steps + l.left ≤ l.initial.steps + l.held; beyond : (x2 : ℕ) → l.left < l.held → slice_index l.starts l.left ≤ x2 → x2 ≤ l.last → Wins l.arms (suc l.i) x2 l.i }
+invariant-loop-left g l = record { fewer : l.left ≤ l.stored; cost : l.steps + l.left ≤ l.initial.steps + l.stored; beyond : (x2 : ℕ) → l.left < l.stored → slice_index l.starts l.left ≤ x2 → x2 ≤ l.last → Wins l.arms (suc l.i) x2 l.i }
 
 abbrev pub decreases-loop-left : goal.decreases-loop-left
 decreases-loop-left g l = l.left

@@ -4,13 +4,13 @@ use Rattle.row_envelope.specs.Envelope.{nearest}
 use Rattle.row_envelope.proofs.row.spread.Given as goal
 
 abbrev pub invariant-loop-x : goal.invariant-loop-x
-invariant-loop-x l = record { k : l.k < l.held; inside : l.x ≤ length l.initial.out; out : length l.out ≡ length l.initial.out; begun : slice_index l.starts l.k ≤ 2 * l.x; done : (j : ℕ) → j < l.x → slice_index_or l.out j None ≡ nearest l.arms j }
+invariant-loop-x l = record { k : l.k < l.stored; inside : l.x ≤ length l.initial.out; out : length l.out ≡ length l.initial.out; begun : slice_index l.starts l.k ≤ 2 * l.x; done : (j : ℕ) → j < l.x → slice_index_or l.out j None ≡ nearest l.arms j }
 
 abbrev pub decreases-loop-x : goal.decreases-loop-x
 decreases-loop-x l = length l.initial.out - l.x
 
 abbrev pub invariant-loop-k : goal.invariant-loop-k
-invariant-loop-k l = record { k : l.k < l.held; begun : slice_index l.starts l.k ≤ 2 * l.x }
+invariant-loop-k l = record { k : l.k < l.stored; begun : slice_index l.starts l.k ≤ 2 * l.x }
 
 abbrev pub decreases-loop-k : goal.decreases-loop-k
-decreases-loop-k l = l.held - l.k
+decreases-loop-k l = l.stored - l.k

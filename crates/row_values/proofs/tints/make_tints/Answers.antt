@@ -10,6 +10,6 @@ pub loop-k-preserved : goal.loop-k-preserved
 loop-k-preserved c = record {
   end = c.loop-k.invariant.end;
   long = c.write_tints.ensures.len ∙ c.loop-k.invariant.long;
-  room = c.write_tints.ensures.room ∙ c.loop-k.invariant.room;
+  workspace = c.write_tints.ensures.workspace ∙ c.loop-k.invariant.workspace;
   done = rows_more (plates c.args.page.now * width c.args.page.now) c.loop-k.k (λ (j : ℕ). tint_value c.args.page.now (c.args.rows.first + j)) c.loop-k.out c.write_tints.new.out c.write_tints.ensures.kept c.write_tints.ensures.here c.loop-k.invariant.done;
 }

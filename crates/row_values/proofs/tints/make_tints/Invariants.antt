@@ -9,6 +9,6 @@ abbrev pub invariant-loop-k : goal.invariant-loop-k
 invariant-loop-k l = record {
   end : l.k-end ≡ l.rows.count;
   long : length l.out ≡ l.rows.count * (plates l.page * width l.page);
-  room : l.room ≡ l.initial.room;
+  workspace : l.workspace ≡ l.initial.workspace;
   done : (j o : ℕ) → j < l.k → o < plates l.page * width l.page → slice_index l.out (j * (plates l.page * width l.page) + o) ≡ tint_value l.page (l.rows.first + j) o;
 }

@@ -9,8 +9,8 @@ trap_samples-requires-clause-places c = grind (arith, common_steps)
 pub trap_samples-requires-clause-out : goal.trap_samples-requires-clause-out
 trap_samples-requires-clause-out c = grind (arith, common_steps)
 
-pub invariant_of-room : goal.invariant_of-room
-invariant_of-room c = grind (arith, common_steps)
+pub invariant_of-workspace : goal.invariant_of-workspace
+invariant_of-workspace c = grind (arith, common_steps)
 
 pub trap_samples-requires-clause-tints : goal.trap_samples-requires-clause-tints
 trap_samples-requires-clause-tints c = grind (arith, common_steps)

@@ -6,12 +6,12 @@ use Rattle.page_model.specs.Page.{width}
 use Rattle.sheet_geometry.specs.Plans.{tile_of}
 use Rattle.sheet_geometry.specs.Spans.{AreSpans}
 use Rattle.sheet_geometry.specs.Tiles.{strip_row}
-use Rattle.sheet_engine.specs.Rooms.{columns_in}
+use Rattle.sheet_engine.specs.Workspaces.{columns_in}
 use Rattle.sheet_engine.proofs.rows.put_strip_row.Given as goal
 
 abbrev pub invariant-loop-j : goal.invariant-loop-j
 invariant-loop-j l = record {
-  spans : AreSpans l.across l.left (drop l.j (columns_in l.room)) (width l.strip);
+  spans : AreSpans l.across l.left (drop l.j (columns_in l.workspace)) (width l.strip);
   long : length l.out ≡ width l.strip;
-  done : take l.left l.out ≡ strip_row l.c l.strip l.k (map (λ column. tile_of column l.row) (take l.j (columns_in l.room)));
+  done : take l.left l.out ≡ strip_row l.c l.strip l.k (map (λ column. tile_of column l.row) (take l.j (columns_in l.workspace)));
 }

@@ -55,8 +55,8 @@ returns-clause-zone_changed c = grind (arith, common_steps)
 pub returns-clause-plate_changed : goal.returns-clause-plate_changed
 returns-clause-plate_changed c = grind (arith, common_steps)
 
-pub add_plates-requires-clause-room : goal.add_plates-requires-clause-room
-add_plates-requires-clause-room c = rw c.deref_mut-2.ensures.value c.requires.plate_room
+pub add_plates-requires-clause-workspace : goal.add_plates-requires-clause-workspace
+add_plates-requires-clause-workspace c = rw c.deref_mut-2.ensures.value c.requires.plate_workspace
 
 pub add_plates-requires-clause-planes : goal.add_plates-requires-clause-planes
 add_plates-requires-clause-planes c = grind (arith, common_steps)

@@ -9,8 +9,8 @@ add_rows-requires-clause-planes c = rw c.as_slice.ensures c.requires.tints.plane
 pub add_rows-requires-clause-changes : goal.add_rows-requires-clause-changes
 add_rows-requires-clause-changes c = ap length c.deref_mut.ensures.value ∙ c.requires.shape.outcome.changes
 
-pub add_rows-requires-clause-room : goal.add_rows-requires-clause-room
-add_rows-requires-clause-room c = c.requires.room
+pub add_rows-requires-clause-workspace : goal.add_rows-requires-clause-workspace
+add_rows-requires-clause-workspace c = c.requires.workspace
 
 pub returns-clause-shape : goal.returns-clause-shape
 returns-clause-shape c = record {

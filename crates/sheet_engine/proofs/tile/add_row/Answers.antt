@@ -12,17 +12,17 @@ add_changes-requires-clause-each c = c.note_changes.ensures.each
 pub add_changes-requires-clause-planes : goal.add_changes-requires-clause-planes
 add_changes-requires-clause-planes c = grind (arith, common_steps)
 
-pub add_changes-requires-clause-zone_room : goal.add_changes-requires-clause-zone_room
-add_changes-requires-clause-zone_room c = grind (arith, common_steps)
+pub add_changes-requires-clause-zone_workspace : goal.add_changes-requires-clause-zone_workspace
+add_changes-requires-clause-zone_workspace c = grind (arith, common_steps)
 
 pub add_changes-requires-clause-zones : goal.add_changes-requires-clause-zones
 add_changes-requires-clause-zones c = grind (arith, common_steps)
 
-pub add_zones-requires-clause-room : goal.add_zones-requires-clause-room
-add_zones-requires-clause-room c = grind (arith, common_steps)
+pub add_zones-requires-clause-workspace : goal.add_zones-requires-clause-workspace
+add_zones-requires-clause-workspace c = grind (arith, common_steps)
 
-pub add_changes-requires-clause-plate_room : goal.add_changes-requires-clause-plate_room
-add_changes-requires-clause-plate_room c = grind (arith, common_steps)
+pub add_changes-requires-clause-plate_workspace : goal.add_changes-requires-clause-plate_workspace
+add_changes-requires-clause-plate_workspace c = grind (arith, common_steps)
 
 pub add_zones-requires-clause-zones : goal.add_zones-requires-clause-zones
 add_zones-requires-clause-zones c = grind (arith, common_steps)

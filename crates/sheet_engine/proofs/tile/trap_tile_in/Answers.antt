@@ -18,5 +18,5 @@ returns-clause-shape c = grind (arith, common_steps)
 pub returns-clause-counts : goal.returns-clause-counts
 returns-clause-counts c = grind (arith, common_steps)
 
-pub add_core-requires-clause-room : goal.add_core-requires-clause-room
-add_core-requires-clause-room c = grind (arith, common_steps)
+pub add_core-requires-clause-workspace : goal.add_core-requires-clause-workspace
+add_core-requires-clause-workspace c = grind (arith, common_steps)

@@ -19,8 +19,8 @@ bounds-counts-zone c =
     let known = zone_known c.args.page.now p c.plates-valid.ensures.valid in
     let zone : c.from-zone.result ≡ zone_of c.args.page.now p = c.from-zone.ensures ∙ at in
     let long = c.loop-k.auto.counts in
-    let room = c.requires.room.long in
-    omega (arith, zone, known, long, room)
+    let workspace = c.requires.workspace.long in
+    omega (arith, zone, known, long, workspace)
 
 pub bounds-counts-zone-in-loop-k : goal.bounds-counts-zone-in-loop-k
 bounds-counts-zone-in-loop-k c =
@@ -29,8 +29,8 @@ bounds-counts-zone-in-loop-k c =
     let known = zone_known c.args.page.now p c.plates-valid.ensures.valid in
     let zone : c.from-zone.result ≡ zone_of c.args.page.now p = c.from-zone.ensures ∙ at in
     let long = c.loop-k.auto.counts in
-    let room = c.requires.room.long in
-    omega (arith, zone, known, long, room)
+    let workspace = c.requires.workspace.long in
+    omega (arith, zone, known, long, workspace)
 
 pub overflow_add-counts : goal.overflow_add-counts
 overflow_add-counts c =
@@ -39,7 +39,7 @@ overflow_add-counts c =
     let known = zone_known c.args.page.now p c.plates-valid.ensures.valid in
     let zone : c.from-zone.result ≡ zone_of c.args.page.now p = c.from-zone.ensures ∙ at in
     let inside : c.from-zone.result < length c.args.page.now.zones = omega (arith, zone, known) in
-    let t = fits (length c.args.page.now.zones) c.args.y c.args.left c.loop-k.k c.args.wide c.from-zone.result (λ z q. (zone_of c.args.page.now q == z) && sample_changes c.args.page.now q) c.args.counts.now c.loop-k.counts c.requires.room inside c.loop-k-test.true c.loop-k.invariant in
+    let t = fits (length c.args.page.now.zones) c.args.y c.args.left c.loop-k.k c.args.wide c.from-zone.result (λ z q. (zone_of c.args.page.now q == z) && sample_changes c.args.page.now q) c.args.counts.now c.loop-k.counts c.requires.workspace inside c.loop-k-test.true c.loop-k.invariant in
     let few = t.1 in
     let one = c.one_if.ensures in
     let most = one_few (slice_index_or c.args.changes.now (c.args.left + c.loop-k.k) false) in
@@ -53,4 +53,4 @@ loop-k-preserved c =
     let zone : c.from-zone.result ≡ zone_of c.args.page.now p = c.from-zone.ensures ∙ at in
     let inside : c.from-zone.result < length c.args.page.now.zones = omega (arith, zone, known) in
     let changes = c.requires.each (c.args.left + c.loop-k.k) (omega (arith, c.requires.inside)) in
-    grows_if (length c.args.page.now.zones) c.args.y c.args.left c.loop-k.k c.from-zone.result _ (slice_index_or c.args.changes.now (c.args.left + c.loop-k.k) false) (zone_of c.args.page.now) (sample_changes c.args.page.now) c.args.counts.now c.loop-k.counts c.requires.room.long zone inside changes (ap (λ (n : ℕ). slice_index c.loop-k.counts c.from-zone.result + n) c.one_if.ensures) c.loop-k.invariant
+    grows_if (length c.args.page.now.zones) c.args.y c.args.left c.loop-k.k c.from-zone.result _ (slice_index_or c.args.changes.now (c.args.left + c.loop-k.k) false) (zone_of c.args.page.now) (sample_changes c.args.page.now) c.args.counts.now c.loop-k.counts c.requires.workspace.long zone inside changes (ap (λ (n : ℕ). slice_index c.loop-k.counts c.from-zone.result + n) c.one_if.ensures) c.loop-k.invariant

@@ -14,7 +14,7 @@ bounds-counts-from c =
     let at = c.requires.zones.each (c.args.left + 0) (omega (arith, c.requires.inside, some)) in
     let is : zone_of c.args.page.now p ≡ c.from.result = sym at ∙ c.in-Some.ensures.all 0 (omega (arith, some)) ∙ sym c.from.ensures in
     let known = zone_known c.args.page.now p c.plates-valid.ensures.valid in
-    let long = c.requires.room.long in
+    let long = c.requires.workspace.long in
     omega (arith, is, known, long)
 
 pub bounds-counts-from-in-Some : goal.bounds-counts-from-in-Some
@@ -24,7 +24,7 @@ bounds-counts-from-in-Some c =
     let at = c.requires.zones.each (c.args.left + 0) (omega (arith, c.requires.inside, some)) in
     let is : zone_of c.args.page.now p ≡ c.from.result = sym at ∙ c.in-Some.ensures.all 0 (omega (arith, some)) ∙ sym c.from.ensures in
     let known = zone_known c.args.page.now p c.plates-valid.ensures.valid in
-    let long = c.requires.room.long in
+    let long = c.requires.workspace.long in
     omega (arith, is, known, long)
 
 pub returns-in-Some : goal.returns-in-Some
@@ -35,7 +35,7 @@ returns-in-Some c =
     let is : zone_of c.args.page.now p ≡ c.from.result = sym at ∙ c.in-Some.ensures.all 0 (omega (arith, some)) ∙ sym c.from.ensures in
     let known = zone_known c.args.page.now p c.plates-valid.ensures.valid in
     let inside : c.from.result < length c.args.page.now.zones = omega (arith, is, known) in
-    grows_whole (length c.args.page.now.zones) c.args.y c.args.left c.args.wide c.from.result _ (zone_of c.args.page.now) c.args.counts.now c.requires.room.long inside
+    grows_whole (length c.args.page.now.zones) c.args.y c.args.left c.args.wide c.from.result _ (zone_of c.args.page.now) c.args.counts.now c.requires.workspace.long inside
     (λ k less. sym (c.requires.zones.each (c.args.left + k) (omega (arith, less, c.requires.inside))) ∙ c.in-Some.ensures.all k less ∙ sym c.from.ensures) refl
 
 pub returns-in-None : goal.returns-in-None

@@ -36,7 +36,7 @@ returns-in-Err g c name before first =
     let many = as_many g.S.AsStr.text c.args.inputs.now in
     let headers : List Header = c.judge_plates.new.headers in
     let long : length inputs ≤ length headers = (let e = c.judge_plates.auto.headers in let few = c.requires.few in omega (arith, many, few, e)) in
-    plate_refused c.plates_judged.ensures.stops c.file_fault_within.ensures (sources name c.args.names.now inputs) c.args.budget.now headers before (map g.T.Tray.state c.args.trays.now) (map g.T.Tray.state c.judge_plates.new.trays) c.args.job c.in-Err.refusal (omega (arith, many)) (omega (arith, many)) long first c.in-Err.ensures
+    plate_refused c.plates_judged.ensures.stops c.file_fault_within.ensures (sources name c.args.names.now inputs) c.args.budget.now headers before (map g.T.Tray.state c.args.trays.now) (map g.T.Tray.state c.judge_plates.new.trays) c.args.job c.in-Err.common_error (omega (arith, many)) (omega (arith, many)) long first c.in-Err.ensures
 
 pub slice_bounds-plan_headers-end : goal.slice_bounds-plan_headers-end
 slice_bounds-plan_headers-end g c = grind (arith, common_steps)

@@ -17,7 +17,7 @@ returns-in-Err g c =
     let source = sources c.args.job.now c.args.names.now inputs in
     let a = map g.T.Tray.state c.args.trays.now in
     let b = map g.T.Tray.state c.read_first.new.trays in
-    job_refused source c.args.budget.now a b c.in-Err.stop some c.in-Err.ensures
+    job_refused source c.args.budget.now a b c.in-Err.error some c.in-Err.ensures
 
 pub judge_rest-requires-clause-named : goal.judge_rest-requires-clause-named
 judge_rest-requires-clause-named g c = grind (arith, common_steps)

@@ -19,8 +19,8 @@ returns-clause-here g c sheet same counted =
     let within : 0 < length racks = (let some = c.requires.racks in omega (arith, some)) in
     let before = state_before g.R.Rack.state no_rack racks 0 old new within in
     let after = state_here g.R.Rack.state no_rack racks 0 old new within in
-    let is = report_is c.args.bare.now c.args.counts c.counts_in_report-told.result c.counts_in_report-told.ensures c.report_is_bare.ensures sheet same counted in
-    let text = report_of c.args.bare.now c.counts_in_report-told.result in
+    let is = report_is c.args.outline.now c.args.counts c.counts_in_report-reported.result c.counts_in_report-reported.ensures c.report_is_outline.ensures sheet same counted in
+    let text = report_of c.args.outline.now c.counts_in_report-reported.result in
     subst (λ (r : RackState). WritesFile c.args.name.now (sheet_report sheet) (rack_at (map g.R.Rack.state racks) 0) r c.write_report.result) (sym after)
     (subst (λ (t : List ℕ). WritesFile c.args.name.now t (rack_at (map g.R.Rack.state racks) 0) (g.R.Rack.state new) c.write_report.result) is
     (subst (λ (r : RackState). WritesFile c.args.name.now text r (g.R.Rack.state new) c.write_report.result) (sym before) c.write_report.ensures))

@@ -3,8 +3,8 @@ use Rattle.std.proofs.Common.{arith}
 use Rattle.std.proofs.lemmas.Grind.{common_steps}
 use Rattle.sheet_files.proofs.streaming.stream.Goals as goal
 
-pub stream_room-requires-clause-can : goal.stream_room-requires-clause-can
-stream_room-requires-clause-can g c = grind (arith, common_steps)
+pub stream_workspace-requires-clause-can : goal.stream_workspace-requires-clause-can
+stream_workspace-requires-clause-can g c = grind (arith, common_steps)
 
 pub stream_in-requires-clause-can : goal.stream_in-requires-clause-can
 stream_in-requires-clause-can g c = grind (arith, common_steps)
@@ -27,5 +27,5 @@ stream_in-requires-clause-racks g c = grind (arith, common_steps)
 pub stream_in-requires-clause-header : goal.stream_in-requires-clause-header
 stream_in-requires-clause-header g c = grind (arith, common_steps)
 
-pub stream_room-requires-clause-across : goal.stream_room-requires-clause-across
-stream_room-requires-clause-across g c = grind (arith, common_steps)
+pub stream_workspace-requires-clause-across : goal.stream_workspace-requires-clause-across
+stream_workspace-requires-clause-across g c = grind (arith, common_steps)

@@ -11,30 +11,30 @@ use Rattle.sheet_files.proofs.whole.trap_row.Goals as goal
 
 pub trap_strip_in-requires-clause-columns : goal.trap_strip_in-requires-clause-columns
 trap_strip_in-requires-clause-columns g c = λ κs alive.
-    subst (λ (cs : List Span). AreSpans c.args.across.now 0 cs (width c.args.sheet.now)) (sym c.in_ok-room.ensures.columns) c.requires.columns
+    subst (λ (cs : List Span). AreSpans c.args.across.now 0 cs (width c.args.sheet.now)) (sym c.in_ok-workspace.ensures.columns) c.requires.columns
 
-pub trap_strip_in-requires-clause-room : goal.trap_strip_in-requires-clause-room
-trap_strip_in-requires-clause-room g c = λ κs alive. c.requires.room
+pub trap_strip_in-requires-clause-workspace : goal.trap_strip_in-requires-clause-workspace
+trap_strip_in-requires-clause-workspace g c = λ κs alive. c.requires.workspace
 
 pub add_strip-requires-clause-columns : goal.add_strip-requires-clause-columns
 add_strip-requires-clause-columns g c =
-    subst (λ (cs : List Span). AreSpans c.args.across.now 0 cs (width c.args.sheet.now)) (sym (c.trap_strip_in.ensures.columns ∙ c.in_ok-room.ensures.columns)) c.requires.columns
+    subst (λ (cs : List Span). AreSpans c.args.across.now 0 cs (width c.args.sheet.now)) (sym (c.trap_strip_in.ensures.columns ∙ c.in_ok-workspace.ensures.columns)) c.requires.columns
 
 pub add_strip-requires-clause-tiles : goal.add_strip-requires-clause-tiles
 add_strip-requires-clause-tiles g c = c.trap_strip_in.ensures.planes ∙ ap (map (planes_of c.args.sheet.now c.args.row.now)) (sym c.trap_strip_in.ensures.columns)
 
 pub returns-clause-kept : goal.returns-clause-kept
-returns-clause-kept g c = record { columns_are = c.trap_strip_in.ensures.columns ∙ c.in_ok-room.ensures.columns; room = c.trap_strip_in.ensures.windows }
+returns-clause-kept g c = record { columns_are = c.trap_strip_in.ensures.columns ∙ c.in_ok-workspace.ensures.columns; workspace = c.trap_strip_in.ensures.windows }
 
 pub returns-clause-tints : goal.returns-clause-tints
 returns-clause-tints g c =
-    subst (λ (cs : List Span). HasStrip c.args.sheet.now cs c.args.row.now c.args.tints.now c.add_strip.new.out) (c.trap_strip_in.ensures.columns ∙ c.in_ok-room.ensures.columns) c.in_ok-add_strip.ensures.out
+    subst (λ (cs : List Span). HasStrip c.args.sheet.now cs c.args.row.now c.args.tints.now c.add_strip.new.out) (c.trap_strip_in.ensures.columns ∙ c.in_ok-workspace.ensures.columns) c.in_ok-add_strip.ensures.out
 
 pub returns-clause-counts : goal.returns-clause-counts
 returns-clause-counts g c = c.trap_strip_in.ensures.counts
 
 pub trap_strip_in-requires-clause-windows : goal.trap_strip_in-requires-clause-windows
-trap_strip_in-requires-clause-windows g c = λ κs alive. c.in_ok-room.ensures.room
+trap_strip_in-requires-clause-windows g c = λ κs alive. c.in_ok-workspace.ensures.workspace
 
 pub add_strip-requires-clause-row : goal.add_strip-requires-clause-row
 add_strip-requires-clause-row g c = c.requires.some_row
@@ -45,8 +45,8 @@ add_strip-requires-clause-line g c = c.requires.line
 pub add_strip-requires-clause-plates : goal.add_strip-requires-clause-plates
 add_strip-requires-clause-plates g c = c.requires.plates
 
-pub fit_room-requires-clause-row : goal.fit_room-requires-clause-row
-fit_room-requires-clause-row g c = grind (arith, common_steps)
+pub fit_workspace-requires-clause-row : goal.fit_workspace-requires-clause-row
+fit_workspace-requires-clause-row g c = grind (arith, common_steps)
 
 pub returns-clause-line : goal.returns-clause-line
 returns-clause-line g c = grind (arith, common_steps)

@@ -5,7 +5,7 @@ use Rattle.page_model.specs.Page.{height, width}
 use Rattle.sheet_geometry.specs.declared.spans.Span.{Span}
 use Rattle.sheet_engine.specs.Whole.{AreTintsTo}
 use Rattle.sheet_engine.proofs.Walking.{next_span, spans_end, spans_order}
-use Rattle.sheet_engine.proofs.Wholes.{all_some, none_room, rows_add, strip_added, strip_room}
+use Rattle.sheet_engine.proofs.Wholes.{all_some, none_workspace, rows_add, strip_added, strip_workspace}
 use Rattle.sheet_engine.specs.Growth.{AddsArea}
 use Rattle.sheet_engine.proofs.Growing.{area_none}
 use Rattle.sheet_files.proofs.whole.trap_rows.Goals as goal
@@ -19,8 +19,8 @@ loop-row-init g c = record {
   kept = tt;
 }
 
-pub trap_row-requires-clause-room : goal.trap_row-requires-clause-room
-trap_row-requires-clause-room g c = λ κs alive.
+pub trap_row-requires-clause-workspace : goal.trap_row-requires-clause-workspace
+trap_row-requires-clause-workspace g c = λ κs alive.
     let sheet = c.args.sheet.now in
     let rows = c.args.rows.now in
     let none : Span = record { from = 0; wide = 0; skip = 0; core = 0 } in
@@ -28,7 +28,7 @@ trap_row-requires-clause-room g c = λ κs alive.
     let core : ℕ = (get_or rows c.loop-row.row-index none).core in
     let inside : c.loop-row.at + core ≤ height sheet = spans_order c.args.down.now (drop (c.loop-row.row-index + 1) rows) (c.loop-row.at + core) (height sheet) next.1 in
     let valid = c.width.ensures.valid in
-    strip_room sheet (width sheet) c.loop-row.at core (height sheet) c.args.counts.now c.loop-row.counts (none_room sheet c.args.counts.now c.requires.counts valid.narrow valid.low) c.loop-row.invariant.counts inside
+    strip_workspace sheet (width sheet) c.loop-row.at core (height sheet) c.args.counts.now c.loop-row.counts (none_workspace sheet c.args.counts.now c.requires.counts valid.narrow valid.low) c.loop-row.invariant.counts inside
 
 pub trap_row-requires-clause-row : goal.trap_row-requires-clause-row
 trap_row-requires-clause-row g c = λ κs alive.
@@ -71,12 +71,12 @@ loop-row-preserved g c =
     let at : c.loop-row.at ≡ 0 + c.loop-row.at = omega arith in
     record {
       spans = next.1;
-      tints = strip_added sheet c.args.across.now c.args.down.now c.args.columns.now (get_or rows c.loop-row.row-index none) c.loop-row.at c.loop-row.tints c.trap_row.new.tints parts.some_plates parts.some_zones c.requires.rulers c.requires.columns next.0 c.loop-row.invariant.tints c.in_ok-room.ensures.tints;
+      tints = strip_added sheet c.args.across.now c.args.down.now c.args.columns.now (get_or rows c.loop-row.row-index none) c.loop-row.at c.loop-row.tints c.trap_row.new.tints parts.some_plates parts.some_zones c.requires.rulers c.requires.columns next.0 c.loop-row.invariant.tints c.in_ok-workspace.ensures.tints;
       counts = rows_add sheet 0 0 (width sheet) c.loop-row.at core c.args.counts.now c.loop-row.counts c.trap_row.new.counts c.loop-row.invariant.counts
-          (subst (λ (n : ℕ). AddsArea sheet 0 n (width sheet) core c.loop-row.counts c.trap_row.new.counts) at c.in_ok-room.ensures.counts);
+          (subst (λ (n : ℕ). AddsArea sheet 0 n (width sheet) core c.loop-row.counts c.trap_row.new.counts) at c.in_ok-workspace.ensures.counts);
       line = (let same = c.trap_row.ensures.line ∙ ap length c.deref_mut.ensures.value in
           ap length (with_items_is c.loop-row.line c.trap_row.new.line (omega (arith, same, c.loop-row.line.ok))) ∙ same ∙ c.loop-row.invariant.line);
-      kept = c.in_ok-room.ensures.kept;
+      kept = c.in_ok-workspace.ensures.kept;
     }
 
 pub returns-clause-tints : goal.returns-clause-tints

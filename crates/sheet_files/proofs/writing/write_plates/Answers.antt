@@ -3,7 +3,7 @@ use Rattle.std.proofs.lemmas.Grind.{common_steps}
 use Rattle.std.proofs.Common.{◌≡◌, ◌<◌, ℕ, List, Ok, Err, length, get_or, map, refl, arith, ap, ◌∙◌, subst}
 use Rattle.std.proofs.lemmas.List.{length-map}
 use Rattle.outside.specs.Writing.{WritesFile}
-use Rattle.outside.specs.declared.tray.Failed.{Failed}
+use Rattle.outside.specs.declared.tray.DeviceError.{DeviceError}
 use Rattle.page_model.specs.declared.parts.Plane.{Plane}
 use Rattle.page_files.specs.Format.{encoded}
 use Rattle.plate_rows.specs.Racks.{rack_at}
@@ -23,12 +23,12 @@ loop-place-preserved g c =
     let d = map g.R.Rack.state c.write_at.new.racks in
     let k = c.loop-place.place in
     let within : k < length c.args.names.now = omega arith in
-    let held : k < length planes = omega arith in
+    let stored : k < length planes = omega arith in
     let named = c.as_str.ensures ∙ ap g.S.AsStr.text c.index-names-place.is in
     first_more names planes k a b d c.loop-place.invariant c.in-Ok.ensures.others
-    (at_output g.S.AsStr.text c.args.names.now planes k c.index-names-place.result c.index-planes-place.result (rack_at b k) (rack_at d k) (Ok c.in-Ok.field-0) within held
-    (subst (λ (n : List ℕ). WritesFile {T = Unit {0}} {E = Failed} n (encoded (get_or planes k c.index-planes-place.result)) (rack_at b k) (rack_at d k) (Ok c.in-Ok.field-0)) named
-    (subst (λ (p : Plane). WritesFile {T = Unit {0}} {E = Failed} c.as_str.result.now (encoded p) (rack_at b k) (rack_at d k) (Ok c.in-Ok.field-0)) c.index-planes-place.is c.in-Ok.ensures.here)))
+    (at_output g.S.AsStr.text c.args.names.now planes k c.index-names-place.result c.index-planes-place.result (rack_at b k) (rack_at d k) (Ok c.in-Ok.field-0) within stored
+    (subst (λ (n : List ℕ). WritesFile {T = Unit {0}} {E = DeviceError} n (encoded (get_or planes k c.index-planes-place.result)) (rack_at b k) (rack_at d k) (Ok c.in-Ok.field-0)) named
+    (subst (λ (p : Plane). WritesFile {T = Unit {0}} {E = DeviceError} c.as_str.result.now (encoded p) (rack_at b k) (rack_at d k) (Ok c.in-Ok.field-0)) c.index-planes-place.is c.in-Ok.ensures.here)))
 
 pub returns-in-Err : goal.returns-in-Err
 returns-in-Err g c =
@@ -38,13 +38,13 @@ returns-in-Err g c =
     let d = map g.R.Rack.state c.write_at.new.racks in
     let k = c.loop-place.place in
     let within : k < length c.args.names.now = omega arith in
-    let held : k < length planes = omega arith in
+    let stored : k < length planes = omega arith in
     let known : k < length names = omega (arith, length-map c.args.names.now g.S.AsStr.text) in
     let named = c.as_str.ensures ∙ ap g.S.AsStr.text c.index-names-place.is in
     WritesPlates.broke k b c.in-Err.field-0 refl known c.loop-place.invariant
-    (at_output g.S.AsStr.text c.args.names.now planes k c.index-names-place.result c.index-planes-place.result (rack_at b k) (rack_at d k) (Err c.in-Err.field-0) within held
-    (subst (λ (n : List ℕ). WritesFile {T = Unit {0}} {E = Failed} n (encoded (get_or planes k c.index-planes-place.result)) (rack_at b k) (rack_at d k) (Err c.in-Err.field-0)) named
-    (subst (λ (p : Plane). WritesFile {T = Unit {0}} {E = Failed} c.as_str.result.now (encoded p) (rack_at b k) (rack_at d k) (Err c.in-Err.field-0)) c.index-planes-place.is c.in-Err.ensures.here)))
+    (at_output g.S.AsStr.text c.args.names.now planes k c.index-names-place.result c.index-planes-place.result (rack_at b k) (rack_at d k) (Err c.in-Err.field-0) within stored
+    (subst (λ (n : List ℕ). WritesFile {T = Unit {0}} {E = DeviceError} n (encoded (get_or planes k c.index-planes-place.result)) (rack_at b k) (rack_at d k) (Err c.in-Err.field-0)) named
+    (subst (λ (p : Plane). WritesFile {T = Unit {0}} {E = DeviceError} c.as_str.result.now (encoded p) (rack_at b k) (rack_at d k) (Err c.in-Err.field-0)) c.index-planes-place.is c.in-Err.ensures.here)))
     c.in-Err.ensures.others
 
 pub returns : goal.returns

@@ -20,7 +20,7 @@ returns-in-Err-write_report g c =
 
 pub returns-in-Err : goal.returns-in-Err
 returns-in-Err g c =
-    plates_failed (map g.S.AsStr.text c.args.names.now) c.args.report.now c.args.planes.now c.args.text.now (map g.R.Rack.state c.args.racks.now) (map g.R.Rack.state c.write_plates.new.racks) c.in-Err.stop c.in-Err.ensures
+    plates_failed (map g.S.AsStr.text c.args.names.now) c.args.report.now c.args.planes.now c.args.text.now (map g.R.Rack.state c.args.racks.now) (map g.R.Rack.state c.write_plates.new.racks) c.in-Err.error c.in-Err.ensures
 
 pub write_plates-requires-clause-fits : goal.write_plates-requires-clause-fits
 write_plates-requires-clause-fits g c = grind (arith, common_steps)

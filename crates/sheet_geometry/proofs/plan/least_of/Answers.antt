@@ -2,7 +2,7 @@
 use Rattle.std.proofs.Common.{length}
 use Rattle.lists.specs.Words.{first_some}
 use Rattle.lists.proofs.FirstSome.{both_none}
-use Rattle.sheet_geometry.specs.Refusals.{far, uncut}
+use Rattle.sheet_geometry.specs.CommonErrors.{far, uncut}
 use Rattle.sheet_geometry.proofs.plan.least_of.Goals as goal
 
 pub least_by-requires-clause-cut : goal.least_by-requires-clause-cut

@@ -3,4 +3,4 @@ use Rattle.sheet_geometry.proofs.BegunLemmas.{some_sheet}
 use Rattle.sheet_geometry.proofs.size_laws.some_sheet_law.Goals as goal
 
 pub returns : goal.returns
-returns c = λ bare tints is blank may. some_sheet bare tints is blank may
+returns c = λ outline tints is blank may. some_sheet outline tints is blank may

@@ -33,9 +33,9 @@ loop-i-preserved c =
     let here : from + i * c.width-wide.result ≡ from + i * w = ap (λ (n : ℕ). from + i * n) c.width-wide.ensures.value in
     let put : c.put_row.new.line ≡ take (from + i * w) mid ++ (row ++ drop (from + i * w + w) mid) = c.put_row.ensures ∙ ap (λ (n : ℕ). take n mid ++ (row ++ drop (n + w) mid)) here in
     let next : (i + 1) * w ≤ c.args.n * w = mul-le-mul (let t = c.loop-i-test.true in omega (arith, t)) (omega arith) in
-    let room : from + (i + 1) * w ≤ length line = (let r = c.requires.room in omega (arith, next, r)) in
+    let workspace : from + (i + 1) * w ≤ length line = (let r = c.requires.workspace in omega (arith, next, r)) in
     record {
-      put = row_put from i w line rows row mid c.put_row.new.line (span_long strip cut k i plate) (row_long strip cut (k + i) plate) room c.loop-i.invariant.put put
+      put = row_put from i w line rows row mid c.put_row.new.line (span_long strip cut k i plate) (row_long strip cut (k + i) plate) workspace c.loop-i.invariant.put put
           ∙ ap (λ (t : List ℕ). take from line ++ (t ++ drop (from + (i + 1) * w) line)) (span_more strip cut k i plate);
     }
 

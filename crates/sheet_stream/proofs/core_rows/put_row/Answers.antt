@@ -11,7 +11,7 @@ returns c =
     let line : List ℕ = c.args.line.now in
     let from : ℕ = c.args.from in
     let wide : ℕ = c.width-wide.result in
-    let row = c.put_strip_row.ensures ∙ row_is strip c.args.cut.now c.args.room.now c.args.k c.args.c c.width-valid.ensures.valid.ranges c.requires.cut c.requires.row in
+    let row = c.put_strip_row.ensures ∙ row_is strip c.args.cut.now c.args.workspace.now c.args.k c.args.c c.width-valid.ensures.valid.ranges c.requires.cut c.requires.row in
     let count : from + wide - from ≡ wide = omega arith in
     let rest : drop (from + wide - from) (drop from line) ≡ drop (from + width strip) line = ap (λ (n : ℕ). drop n (drop from line)) count ∙ drop_more from wide line ∙ ap (λ (n : ℕ). drop (from + n) line) c.width-wide.ensures.value in
     λ i. take from line ++ (row i ++ rest i)

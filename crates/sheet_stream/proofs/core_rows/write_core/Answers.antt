@@ -14,7 +14,7 @@ pub loop-k-init : goal.loop-k-init
 loop-k-init g c = record {
   inside = omega arith;
   line_long = omega arith;
-  room_left = c.requires.bytes;
+  workspace_left = c.requires.bytes;
   racks_same = omega arith;
   are_open = c.requires.open;
   written = λ names tints start have. none_written names c.args.header (plates c.args.strip.now) c.args.strip.now c.args.cut.now tints start (map g.R.Rack.state c.args.racks.now) have;
@@ -31,7 +31,7 @@ write_next-requires-clause-fits g c =
     let valid = c.width-valid.ensures.valid.ranges in
     let test = c.loop-k-test.true in
     let few = c.rows_at_once-n.ensures.few in
-    let inside = rows_inside strip cut c.args.room.now k n c.requires.cut (omega (arith, test, few)) in
+    let inside = rows_inside strip cut c.args.workspace.now k n c.requires.cut (omega (arith, test, few)) in
     let fit : n * (plates strip * width strip) ≤ length c.loop-k.line = rw (c.width-wide.ensures.value, c.plates-count.ensures.value) at c.rows_at_once-n.ensures.fits in
     let here : c.plates-count.result * (n * c.width-wide.result) ≡ plates strip * each = (λ i. c.plates-count.ensures.value i * (n * c.width-wide.ensures.value i)) in
     let part = length-take (c.plates-count.result * (n * c.width-wide.result)) c.loop-k.line in
@@ -52,8 +52,8 @@ returns-in-Err g c =
     let b = map g.R.Rack.state c.write_next.new.racks in
     let test = c.loop-k-test.true in
     let few = c.rows_at_once-n.ensures.few in
-    let writes = subst (λ (m : ℕ). WritesNext m c.args.header (part_at (n * width strip) line) a b (Err c.in-Err.refusal)) c.plates-count.ensures.value (subst (λ (w : ℕ). WritesNext c.plates-count.result c.args.header (part_at (n * w) line) a b (Err c.in-Err.refusal)) c.width-wide.ensures.value c.in-Err.ensures) in
-    core_stops (plates strip) c.args.header strip cut c.loop-k.k n line (map g.R.Rack.state c.args.racks.now) a b c.in-Err.refusal c.rows_at_once-n.ensures.some (omega (arith, test, few)) c.loop-k.invariant.written c.put_rows.ensures.rows writes
+    let writes = subst (λ (m : ℕ). WritesNext m c.args.header (part_at (n * width strip) line) a b (Err c.in-Err.common_error)) c.plates-count.ensures.value (subst (λ (w : ℕ). WritesNext c.plates-count.result c.args.header (part_at (n * w) line) a b (Err c.in-Err.common_error)) c.width-wide.ensures.value c.in-Err.ensures) in
+    core_stops (plates strip) c.args.header strip cut c.loop-k.k n line (map g.R.Rack.state c.args.racks.now) a b c.in-Err.common_error c.rows_at_once-n.ensures.some (omega (arith, test, few)) c.loop-k.invariant.written c.put_rows.ensures.rows writes
 
 pub loop-k-preserved : goal.loop-k-preserved
 loop-k-preserved g c =
@@ -78,7 +78,7 @@ loop-k-preserved g c =
           let left = length-drop size c.loop-k.line in
           let before = c.loop-k.invariant.line_long in
           omega (arith, all, both, kept, part, left, before));
-      room_left = (let same = c.write_next.auto.bytes in let before = c.loop-k.invariant.room_left in omega (arith, same, before));
+      workspace_left = (let same = c.write_next.auto.bytes in let before = c.loop-k.invariant.workspace_left in omega (arith, same, before));
       racks_same = (let same = c.write_next.auto.racks in let before = c.loop-k.invariant.racks_same in omega (arith, same, before));
       are_open = open_on (plates strip) c.args.header (part_at (n * width strip) line) a b c.loop-k.invariant.are_open writes;
       written = λ names tints start have. rows_written names c.args.header (plates strip) strip cut tints start c.loop-k.k n line a b (c.loop-k.invariant.written names tints start have) c.put_rows.ensures.rows writes;
@@ -102,8 +102,8 @@ put_rows-requires-clause-line g c =
 pub put_rows-requires-clause-rows : goal.put_rows-requires-clause-rows
 put_rows-requires-clause-rows g c = (let test = c.loop-k-test.true in let few = c.rows_at_once-n.ensures.few in omega (arith, test, few))
 
-pub rows_at_once-n-requires-clause-room : goal.rows_at_once-n-requires-clause-room
-rows_at_once-n-requires-clause-room g c = rw (c.plates-count.ensures.value, c.width-wide.ensures.value) (let long = c.loop-k.invariant.line_long in let room = c.requires.line in omega (arith, long, room))
+pub rows_at_once-n-requires-clause-workspace : goal.rows_at_once-n-requires-clause-workspace
+rows_at_once-n-requires-clause-workspace g c = rw (c.plates-count.ensures.value, c.width-wide.ensures.value) (let long = c.loop-k.invariant.line_long in let workspace = c.requires.line in omega (arith, long, workspace))
 
 pub overflow_mul-each : goal.overflow_mul-each
 overflow_mul-each g c = grind (arith, common_steps)

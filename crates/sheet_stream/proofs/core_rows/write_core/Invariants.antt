@@ -12,7 +12,7 @@ abbrev pub invariant-loop-k : goal.invariant-loop-k
 invariant-loop-k g l = record {
   inside : l.k ≤ l.cut.row.core;
   line_long : length l.line ≡ length l.fn.line;
-  room_left : 2 ≤ length l.bytes;
+  workspace_left : 2 ≤ length l.bytes;
   racks_same : length l.racks ≡ length l.fn.racks;
   are_open : AreOpen l.header (plates l.strip) (map g.R.Rack.state l.racks);
   written : (names : List (List ℕ)) (tints : ℕ → List ℕ) (start : List RackState) → HaveWritten names l.header (plates l.strip) tints start (map g.R.Rack.state l.fn.racks) → HaveWritten names l.header (plates l.strip) (λ c. tints c ++ core_rows_of l.strip l.cut l.k c) start (map g.R.Rack.state l.racks);

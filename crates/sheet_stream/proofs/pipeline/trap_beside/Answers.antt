@@ -24,8 +24,8 @@ returns-clause-pieces g c = grind (arith, common_steps)
 pub trap_while-requires-clause-work : goal.trap_while-requires-clause-work
 trap_while-requires-clause-work g c = grind (arith, common_steps)
 
-pub shape_of-room : goal.shape_of-room
-shape_of-room g c = grind (arith, common_steps)
+pub shape_of-workspace : goal.shape_of-workspace
+shape_of-workspace g c = grind (arith, common_steps)
 
 pub progress_after-requires : goal.progress_after-requires
 progress_after-requires g c = grind (arith, common_steps)

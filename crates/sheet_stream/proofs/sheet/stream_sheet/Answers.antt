@@ -17,7 +17,7 @@ write_sheet-requires-clause-headers g c κs within =
     let header = c.args.plan.now.header in
     let few : n ≤ 16 = (let a = c.requires.inputs in let b = c.requires.can.valid.parts.few_plates in omega (arith, a, b)) in
     let long = c.begin_plates.auto.plates in
-    have_headers inputs c.args.bare.now header (replicate 16 header) c.begin_plates.new.plates (map g.T.Tray.state c.args.trays.now) (map g.T.Tray.state c.begin_plates.new.trays) c.requires.header
+    have_headers inputs c.args.outline.now header (replicate 16 header) c.begin_plates.new.plates (map g.T.Tray.state c.args.trays.now) (map g.T.Tray.state c.begin_plates.new.trays) c.requires.header
     (λ k l. sixteen header k (omega (arith, l, few, n_is))) (sym n_is ∙ c.requires.inputs) n n_is (omega (arith, few, n_is, long)) c.in-Ok.ensures
 
 pub write_sheet-requires-clause-read : goal.write_sheet-requires-clause-read
@@ -31,7 +31,7 @@ write_sheet-requires-clause-read g c κs within =
     record {
       inputs = inputs;
       start = map g.T.Tray.state c.args.trays.now;
-      read = are_begun inputs c.args.bare.now header (replicate 16 header) c.begin_plates.new.plates (map g.T.Tray.state c.args.trays.now) (map g.T.Tray.state c.begin_plates.new.trays) c.requires.header
+      read = are_begun inputs c.args.outline.now header (replicate 16 header) c.begin_plates.new.plates (map g.T.Tray.state c.args.trays.now) (map g.T.Tray.state c.begin_plates.new.trays) c.requires.header
           (λ k l. sixteen header k (omega (arith, l, few, n_is))) (sym n_is ∙ c.requires.inputs) n n_is (omega (arith, few, n_is, long)) c.in-Ok.ensures;
     }
 
@@ -45,9 +45,9 @@ returns-in-Ok g c =
     let few : n ≤ 16 = (let a = c.requires.inputs in let b = c.requires.can.valid.parts.few_plates in omega (arith, a, b)) in
     let long = c.begin_plates.auto.plates in
     let start = map g.T.Tray.state c.args.trays.now in
-    let read = are_begun inputs c.args.bare.now header (replicate 16 header) c.begin_plates.new.plates start (map g.T.Tray.state c.begin_plates.new.trays) c.requires.header
+    let read = are_begun inputs c.args.outline.now header (replicate 16 header) c.begin_plates.new.plates start (map g.T.Tray.state c.begin_plates.new.trays) c.requires.header
     (λ k l. sixteen header k (omega (arith, l, few, n_is))) (sym n_is ∙ c.requires.inputs) n n_is (omega (arith, few, n_is, long)) c.in-Ok.ensures in
-    streams_from (course_of inputs outputs start (map g.R.Rack.state c.args.racks.now)) c.args.bare.now header c.write_sheet.new.room.counts (map g.T.Tray.state c.write_sheet.new.trays) (map g.R.Rack.state c.write_sheet.new.racks) c.write_sheet.result
+    streams_from (course_of inputs outputs start (map g.R.Rack.state c.args.racks.now)) c.args.outline.now header c.write_sheet.new.workspace.counts (map g.T.Tray.state c.write_sheet.new.trays) (map g.R.Rack.state c.write_sheet.new.racks) c.write_sheet.result
     (c.write_sheet.ensures inputs start read)
 
 pub returns-in-Err : goal.returns-in-Err
@@ -58,8 +58,8 @@ returns-in-Err g c =
     let header = c.args.plan.now.header in
     let few : n ≤ 16 = (let a = c.requires.inputs in let b = c.requires.can.valid.parts.few_plates in omega (arith, a, b)) in
     inl (
-      not_begun_again inputs c.args.bare.now header (replicate 16 header) c.begin_plates.new.plates (map g.T.Tray.state c.args.trays.now) (map g.T.Tray.state c.begin_plates.new.trays) c.requires.header
-          (λ k l. sixteen header k (omega (arith, l, few, n_is))) (sym n_is ∙ c.requires.inputs) n n_is c.in-Err.stop c.in-Err.ensures,
+      not_begun_again inputs c.args.outline.now header (replicate 16 header) c.begin_plates.new.plates (map g.T.Tray.state c.args.trays.now) (map g.T.Tray.state c.begin_plates.new.trays) c.requires.header
+          (λ k l. sixteen header k (omega (arith, l, few, n_is))) (sym n_is ∙ c.requires.inputs) n n_is c.in-Err.error c.in-Err.ensures,
       refl,
     )
 

@@ -2,28 +2,28 @@
 use Rattle.std.proofs.lemmas.Grind.{common_steps}
 use Rattle.std.proofs.Common.{arith, ◌∙◌, map, sym}
 use Rattle.sheet_stream.specs.Going.{gone_on}
-use Rattle.sheet_stream.proofs.AwaitLemmas.{awaits, still_room, waits}
+use Rattle.sheet_stream.proofs.AwaitLemmas.{awaits, still_workspace, waits}
 use Rattle.sheet_stream.proofs.StepLemmas.{stopped_beside, trappable}
 use Rattle.sheet_stream.proofs.ReadLemmas.{new_cuttable}
 use Rattle.sheet_stream.proofs.step.stream_strip.Goals as goal
 
 pub trap_beside-requires-clause-trap : goal.trap_beside-requires-clause-trap
 trap_beside-requires-clause-trap g c κs within =
-    let bare = c.args.bare.now in
+    let outline = c.args.outline.now in
     let plan = c.args.plan.now in
     let begun = c.args.plates.now in
     let row = c.args.row.now in
-    let old = c.args.room.now in
+    let old = c.args.workspace.now in
     let trays = map g.T.Tray.state c.args.trays.now in
     let ask = c.requires in
     let way = ask.way in
-    trappable bare plan begun row ask.can ask.row old trays way.course way.none way.awaits.at way.empty old.windows ask.room.one
+    trappable outline plan begun row ask.can ask.row old trays way.course way.none way.awaits.at way.empty old.windows ask.workspace.one
 
 pub trap_beside-requires-clause-opened : goal.trap_beside-requires-clause-opened
 trap_beside-requires-clause-opened g c κs within = c.requires.way.awaits.opened
 
 pub trap_beside-requires-clause-count : goal.trap_beside-requires-clause-count
-trap_beside-requires-clause-count g c κs within = c.requires.room.ahead.is_strip.planes.count ∙ sym c.requires.headers.count
+trap_beside-requires-clause-count g c κs within = c.requires.workspace.ahead.is_strip.planes.count ∙ sym c.requires.headers.count
 
 pub trap_beside-requires-clause-can : goal.trap_beside-requires-clause-can
 trap_beside-requires-clause-can g c κs within =
@@ -32,33 +32,33 @@ trap_beside-requires-clause-can g c κs within =
       can = c.requires.can;
       headers = c.requires.headers;
       next = c.requires.next;
-      at_hand = c.requires.room.strip;
-      room = c.requires.room.ahead;
+      at_hand = c.requires.workspace.strip;
+      workspace = c.requires.workspace.ahead;
       there = record { inputs = way.course.inputs; start = way.course.trays; holds = way.awaits.at.holds };
     }
 
 pub change_places-requires : goal.change_places-requires
 change_places-requires g c =
-    let bare = c.args.bare.now in
+    let outline = c.args.outline.now in
     let plan = c.args.plan.now in
     let begun = c.args.plates.now in
     let row = c.args.row.now in
     let next = c.args.next.now in
-    let old = c.args.room.now in
+    let old = c.args.workspace.now in
     let trays = map g.T.Tray.state c.args.trays.now in
     let ask = c.requires in
     let way = ask.way in
     let trays' = map g.T.Tray.state c.trap_beside.new.trays in
-    let mid = c.trap_beside.new.room in
-    new_cuttable bare plan begun (gone_on row) next ask.can ask.headers ask.next old.strip ask.room.strip trays trays' mid.ahead way.course.inputs way.course.trays way.awaits.at.holds c.in-Ok.ensures.does.1
+    let mid = c.trap_beside.new.workspace in
+    new_cuttable outline plan begun (gone_on row) next ask.can ask.headers ask.next old.strip ask.workspace.strip trays trays' mid.ahead way.course.inputs way.course.trays way.awaits.at.holds c.in-Ok.ensures.does.1
 
-pub returns-in-Ok-clause-room : goal.returns-in-Ok-clause-room
-returns-in-Ok-clause-room g c =
+pub returns-in-Ok-clause-workspace : goal.returns-in-Ok-clause-workspace
+returns-in-Ok-clause-workspace g c =
     let ask = c.requires in
     let did = c.trap_beside.ensures in
     let put = c.change_places.ensures in
-    still_room c.args.bare.now c.args.plan.now c.args.plates.now c.args.row.now c.args.next.now ask.can ask.headers ask.row ask.next
-    c.args.room.now c.trap_beside.new.room c.change_places.new.room ask.room
+    still_workspace c.args.outline.now c.args.plan.now c.args.plates.now c.args.row.now c.args.next.now ask.can ask.headers ask.row ask.next
+    c.args.workspace.now c.trap_beside.new.workspace c.change_places.new.workspace ask.workspace
     (map g.T.Tray.state c.args.trays.now) (map g.T.Tray.state c.trap_beside.new.trays) ask.way.course ask.way.none ask.way.awaits.at did.trapped c.in-Ok.ensures.does.1
     put.strip (put.ahead ∙ did.strip) put.trapped
     (put.windows ∙ did.windows) (put.line ∙ did.line) (put.bytes ∙ did.bytes) (put.pieces ∙ did.pieces)
@@ -68,8 +68,8 @@ returns-in-Ok-clause-waiting g c =
     let ask = c.requires in
     let did = c.trap_beside.ensures in
     let put = c.change_places.ensures in
-    waits c.args.bare.now c.args.plan.now c.args.plates.now c.args.row.now c.args.next.now ask.can ask.headers ask.row ask.next
-    c.args.room.now c.trap_beside.new.room c.change_places.new.room ask.room
+    waits c.args.outline.now c.args.plan.now c.args.plates.now c.args.row.now c.args.next.now ask.can ask.headers ask.row ask.next
+    c.args.workspace.now c.trap_beside.new.workspace c.change_places.new.workspace ask.workspace
     (map g.T.Tray.state c.args.trays.now) (map g.T.Tray.state c.trap_beside.new.trays) ask.way.course ask.way.none ask.way.awaits.at did.trapped c.in-Ok.ensures.does.1
     put.strip (put.ahead ∙ did.strip) put.trapped
     (put.line ∙ did.line) (put.bytes ∙ did.bytes)
@@ -80,28 +80,28 @@ returns-in-Ok-clause-goes g c course none stands =
     let did = c.trap_beside.ensures in
     let put = c.change_places.ensures in
     let racks = map g.R.Rack.state c.trap_beside.new.racks in
-    awaits c.args.bare.now c.args.plan.now c.args.plates.now c.args.row.now c.args.next.now ask.can ask.headers ask.row ask.next
-    c.args.room.now c.trap_beside.new.room c.change_places.new.room ask.room
+    awaits c.args.outline.now c.args.plan.now c.args.plates.now c.args.row.now c.args.next.now ask.can ask.headers ask.row ask.next
+    c.args.workspace.now c.trap_beside.new.workspace c.change_places.new.workspace ask.workspace
     (map g.T.Tray.state c.args.trays.now) (map g.T.Tray.state c.trap_beside.new.trays) course none stands.at did.trapped c.in-Ok.ensures.does.1
     put.strip (put.ahead ∙ did.strip) put.trapped
     put.counts racks (stands.written racks c.in-Ok.ensures.does.0)
 
 pub returns-in-Err-clause-goes : goal.returns-in-Err-clause-goes
 returns-in-Err-clause-goes g c course none stands =
-    let bare = c.args.bare.now in
+    let outline = c.args.outline.now in
     let plan = c.args.plan.now in
     let begun = c.args.plates.now in
     let row = c.args.row.now in
     let next = c.args.next.now in
-    let old = c.args.room.now in
+    let old = c.args.workspace.now in
     let trays = map g.T.Tray.state c.args.trays.now in
     let ask = c.requires in
     let trays' = map g.T.Tray.state c.trap_beside.new.trays in
-    let mid = c.trap_beside.new.room in
+    let mid = c.trap_beside.new.workspace in
     let last = c.args.last.now in
     let racks = map g.R.Rack.state c.args.racks.now in
     let racks' = map g.R.Rack.state c.trap_beside.new.racks in
-    stopped_beside bare plan begun last row next ask.can ask.headers ask.row ask.next old ask.room.strip mid.ahead trays trays' racks racks' course none stands c.in-Err.stop c.in-Err.ensures.does
+    stopped_beside outline plan begun last row next ask.can ask.headers ask.row ask.next old ask.workspace.strip mid.ahead trays trays' racks racks' course none stands c.in-Err.error c.in-Err.ensures.does
 
 pub trap_beside-requires-clause-row : goal.trap_beside-requires-clause-row
 trap_beside-requires-clause-row g c = grind (arith, common_steps)

@@ -2,23 +2,23 @@
 use Rattle.std.proofs.lemmas.Grind.{common_steps}
 use Rattle.std.proofs.Common.{◌∙◌, length, map, ap, arith}
 use Rattle.sheet_stream.specs.Going.{core_top, gone_on}
-use Rattle.sheet_stream.proofs.AwaitLemmas.{awaits, still_room, waits}
+use Rattle.sheet_stream.proofs.AwaitLemmas.{awaits, still_workspace, waits}
 use Rattle.sheet_stream.proofs.StepLemmas.{trappable}
 use Rattle.sheet_stream.proofs.ReadLemmas.{new_cuttable, reading_stops}
-use Rattle.sheet_stream.specs.declared.strip.CoreRoom.{CoreRoom}
+use Rattle.sheet_stream.specs.declared.strip.CoreWorkspace.{CoreWorkspace}
 use Rattle.sheet_stream.proofs.step.trap_first.Goals as goal
 
 pub trap_and_read-requires-clause-trap : goal.trap_and_read-requires-clause-trap
 trap_and_read-requires-clause-trap g c κs within =
-    let bare = c.args.bare.now in
+    let outline = c.args.outline.now in
     let plan = c.args.plan.now in
     let begun = c.args.plates.now in
     let row = c.args.row.now in
-    let old = c.args.room.now in
+    let old = c.args.workspace.now in
     let trays = map g.T.Tray.state c.args.trays.now in
     let ask = c.requires in
     let way = ask.way in
-    trappable bare plan begun row ask.can ask.row old trays way.course way.none way.at way.empty old.windows ask.room.one
+    trappable outline plan begun row ask.can ask.row old trays way.course way.none way.at way.empty old.windows ask.workspace.one
 
 pub trap_and_read-requires-clause-can : goal.trap_and_read-requires-clause-can
 trap_and_read-requires-clause-can g c κs within =
@@ -27,73 +27,73 @@ trap_and_read-requires-clause-can g c κs within =
       can = c.requires.can;
       headers = c.requires.headers;
       next = c.requires.next;
-      at_hand = c.requires.room.strip;
-      room = c.requires.room.ahead;
+      at_hand = c.requires.workspace.strip;
+      workspace = c.requires.workspace.ahead;
       there = record { inputs = way.course.inputs; start = way.course.trays; holds = way.at.holds };
     }
 
 pub change_places-requires : goal.change_places-requires
 change_places-requires g c =
-    let bare = c.args.bare.now in
+    let outline = c.args.outline.now in
     let plan = c.args.plan.now in
     let begun = c.args.plates.now in
     let row = c.args.row.now in
     let next = c.args.next.now in
-    let old = c.args.room.now in
+    let old = c.args.workspace.now in
     let trays = map g.T.Tray.state c.args.trays.now in
     let ask = c.requires in
     let way = ask.way in
     let trays' = map g.T.Tray.state c.trap_and_read.new.trays in
-    let mid = c.trap_and_read.new.room in
-    new_cuttable bare plan begun (gone_on row) next ask.can ask.headers ask.next old.strip ask.room.strip trays trays' mid.ahead way.course.inputs way.course.trays way.at.holds c.in-Ok.ensures.read
+    let mid = c.trap_and_read.new.workspace in
+    new_cuttable outline plan begun (gone_on row) next ask.can ask.headers ask.next old.strip ask.workspace.strip trays trays' mid.ahead way.course.inputs way.course.trays way.at.holds c.in-Ok.ensures.read
 
-pub returns-in-Ok-clause-room : goal.returns-in-Ok-clause-room
-returns-in-Ok-clause-room g c =
+pub returns-in-Ok-clause-workspace : goal.returns-in-Ok-clause-workspace
+returns-in-Ok-clause-workspace g c =
     let ask = c.requires in
     let did = c.trap_and_read.ensures in
     let put = c.change_places.ensures in
-    still_room c.args.bare.now c.args.plan.now c.args.plates.now c.args.row.now c.args.next.now ask.can ask.headers ask.row ask.next
-    c.args.room.now c.trap_and_read.new.room c.change_places.new.room ask.room
+    still_workspace c.args.outline.now c.args.plan.now c.args.plates.now c.args.row.now c.args.next.now ask.can ask.headers ask.row ask.next
+    c.args.workspace.now c.trap_and_read.new.workspace c.change_places.new.workspace ask.workspace
     (map g.T.Tray.state c.args.trays.now) (map g.T.Tray.state c.trap_and_read.new.trays) ask.way.course ask.way.none ask.way.at did.trapped c.in-Ok.ensures.read
     put.strip (put.ahead ∙ did.strip) put.trapped
-    (put.windows ∙ ap (λ (core : CoreRoom). core.windows) did.core) (put.line ∙ ap (λ (core : CoreRoom). length core.line.items) did.core) (put.bytes ∙ ap (λ (core : CoreRoom). length core.bytes.items) did.core) (put.pieces ∙ did.pieces)
+    (put.windows ∙ ap (λ (core : CoreWorkspace). core.windows) did.core) (put.line ∙ ap (λ (core : CoreWorkspace). length core.line.items) did.core) (put.bytes ∙ ap (λ (core : CoreWorkspace). length core.bytes.items) did.core) (put.pieces ∙ did.pieces)
 
 pub returns-in-Ok-clause-waiting : goal.returns-in-Ok-clause-waiting
 returns-in-Ok-clause-waiting g c =
     let ask = c.requires in
     let did = c.trap_and_read.ensures in
     let put = c.change_places.ensures in
-    waits c.args.bare.now c.args.plan.now c.args.plates.now c.args.row.now c.args.next.now ask.can ask.headers ask.row ask.next
-    c.args.room.now c.trap_and_read.new.room c.change_places.new.room ask.room
+    waits c.args.outline.now c.args.plan.now c.args.plates.now c.args.row.now c.args.next.now ask.can ask.headers ask.row ask.next
+    c.args.workspace.now c.trap_and_read.new.workspace c.change_places.new.workspace ask.workspace
     (map g.T.Tray.state c.args.trays.now) (map g.T.Tray.state c.trap_and_read.new.trays) ask.way.course ask.way.none ask.way.at did.trapped c.in-Ok.ensures.read
     put.strip (put.ahead ∙ did.strip) put.trapped
-    (put.line ∙ ap (λ (core : CoreRoom). length core.line.items) did.core) (put.bytes ∙ ap (λ (core : CoreRoom). length core.bytes.items) did.core)
+    (put.line ∙ ap (λ (core : CoreWorkspace). length core.line.items) did.core) (put.bytes ∙ ap (λ (core : CoreWorkspace). length core.bytes.items) did.core)
 
 pub returns-in-Ok-clause-goes : goal.returns-in-Ok-clause-goes
 returns-in-Ok-clause-goes g c course none racks stands =
     let ask = c.requires in
     let did = c.trap_and_read.ensures in
     let put = c.change_places.ensures in
-    awaits c.args.bare.now c.args.plan.now c.args.plates.now c.args.row.now c.args.next.now ask.can ask.headers ask.row ask.next
-    c.args.room.now c.trap_and_read.new.room c.change_places.new.room ask.room
+    awaits c.args.outline.now c.args.plan.now c.args.plates.now c.args.row.now c.args.next.now ask.can ask.headers ask.row ask.next
+    c.args.workspace.now c.trap_and_read.new.workspace c.change_places.new.workspace ask.workspace
     (map g.T.Tray.state c.args.trays.now) (map g.T.Tray.state c.trap_and_read.new.trays) course none stands.at did.trapped c.in-Ok.ensures.read
     put.strip (put.ahead ∙ did.strip) put.trapped
     put.counts racks stands.written
 
 pub returns-in-Err-clause-goes : goal.returns-in-Err-clause-goes
 returns-in-Err-clause-goes g c course none racks stands =
-    let bare = c.args.bare.now in
+    let outline = c.args.outline.now in
     let plan = c.args.plan.now in
     let begun = c.args.plates.now in
     let row = c.args.row.now in
     let next = c.args.next.now in
-    let old = c.args.room.now in
+    let old = c.args.workspace.now in
     let trays = map g.T.Tray.state c.args.trays.now in
     let ask = c.requires in
     let trays' = map g.T.Tray.state c.trap_and_read.new.trays in
-    let mid = c.trap_and_read.new.room in
+    let mid = c.trap_and_read.new.workspace in
     record {
-      stops = reading_stops bare plan begun (gone_on row) next ask.can ask.headers ask.next old.strip ask.room.strip trays trays' mid.ahead course.inputs course.trays stands.at.holds c.in-Err.stop c.in-Err.ensures.read;
+      stops = reading_stops outline plan begun (gone_on row) next ask.can ask.headers ask.next old.strip ask.workspace.strip trays trays' mid.ahead course.inputs course.trays stands.at.holds c.in-Err.error c.in-Err.ensures.read;
       samples = stands.at.holds.samples;
       between = trays;
       read = stands.at.holds.read;

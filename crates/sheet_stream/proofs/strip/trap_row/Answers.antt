@@ -8,7 +8,7 @@ use Rattle.sheet_geometry.specs.Plans.{AreRulers}
 use Rattle.sheet_geometry.specs.Spans.{AreSpans}
 use Rattle.sheet_stream.specs.declared.core_rows.StripCut.{StripCut}
 use Rattle.sheet_stream.proofs.ReadyLemmas.{strip_rulers, strip_span}
-use Rattle.sheet_engine.specs.Rooms.{IsStripRoom}
+use Rattle.sheet_engine.specs.Workspaces.{IsStripWorkspace}
 use Rattle.sheet_engine.specs.Strips.{planes_of}
 use Rattle.sheet_engine.specs.Growth.{AddsArea}
 use Rattle.sheet_geometry.specs.Forms.{form_of}
@@ -21,7 +21,7 @@ trap_strip_in-requires-clause-rulers g c lifetimes lives =
 
 pub trap_strip_in-requires-clause-windows : goal.trap_strip_in-requires-clause-windows
 trap_strip_in-requires-clause-windows g c lifetimes lives =
-    subst (λ (k : StripCut). IsStripRoom (form_of c.args.strip.now) k.row.wide c.args.windows.now) (sym c.cut_of-cut.ensures) c.requires.windows
+    subst (λ (k : StripCut). IsStripWorkspace (form_of c.args.strip.now) k.row.wide c.args.windows.now) (sym c.cut_of-cut.ensures) c.requires.windows
 
 pub returns : goal.returns
 returns g c =
@@ -30,10 +30,10 @@ returns g c =
     let strip = c.args.strip.now in
     let cut = c.cut_of-cut.ensures in
     let did = c.trap_strip_in.ensures in
-    let after = c.trap_strip_in.new.room in
+    let after = c.trap_strip_in.new.workspace in
     record {
       columns = did.columns;
-      windows = subst (λ (k : StripCut). IsStripRoom (form_of strip) k.row.wide after) cut did.windows;
+      windows = subst (λ (k : StripCut). IsStripWorkspace (form_of strip) k.row.wide after) cut did.windows;
       cut = record {
         rulers = strip_rulers plan row strip c.args.windows.now c.args.counts.now c.requires;
         row = strip_span plan row strip c.args.windows.now c.args.counts.now c.requires;
@@ -43,8 +43,8 @@ returns g c =
       counted = subst (λ (k : StripCut). AddsArea strip 0 k.row.skip (width strip) k.row.core c.args.counts.now c.trap_strip_in.new.counts) cut did.counts;
     }
 
-pub trap_strip_in-requires-clause-room : goal.trap_strip_in-requires-clause-room
-trap_strip_in-requires-clause-room g c = grind (arith, common_steps)
+pub trap_strip_in-requires-clause-workspace : goal.trap_strip_in-requires-clause-workspace
+trap_strip_in-requires-clause-workspace g c = grind (arith, common_steps)
 
 pub trap_strip_in-requires-clause-small : goal.trap_strip_in-requires-clause-small
 trap_strip_in-requires-clause-small g c = grind (arith, common_steps)

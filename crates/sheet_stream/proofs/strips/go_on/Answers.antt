@@ -4,7 +4,7 @@ use Rattle.std.proofs.lemmas.Grind.{common_steps}
 use Rattle.sheet_stream.specs.declared.rows.Progress.{Progress}
 use Rattle.sheet_stream.specs.Going.{IsNextRow}
 use Rattle.sheet_stream.specs.Strips.{IsSomeStrip}
-use Rattle.sheet_stream.specs.Rooms.{CanHoldStrip}
+use Rattle.sheet_stream.specs.Workspaces.{CanHoldStrip}
 use Rattle.sheet_stream.proofs.strips.go_on.Goals as goal
 
 pub loop-progress-init : goal.loop-progress-init
@@ -14,7 +14,7 @@ loop-progress-init g c = record {
   hand = c.requires.second;
   progress_is = c.progress_after-progress.ensures.value;
   progress_valid = c.progress_after-progress.ensures.is;
-  room_is = c.requires.room;
+  workspace_is = c.requires.workspace;
   waiting = c.requires.waiting;
   awaits = λ course none awaits. awaits;
 }
@@ -42,7 +42,7 @@ loop-progress-preserved g c =
       hand = c.next_row-next.ensures.strip;
       progress_is = c.progress_after-progress-in-Ok.ensures.value;
       progress_valid = c.progress_after-progress-in-Ok.ensures.is;
-      room_is = c.in-Ok.ensures.room;
+      workspace_is = c.in-Ok.ensures.workspace;
       waiting = c.in-Ok.ensures.waiting;
       awaits = λ course none awaits. c.in-Ok.ensures.goes course none (before.awaits course none awaits);
     }
@@ -53,7 +53,7 @@ returns-in-Err-clause-reaches g c course none awaits = c.in-Err.ensures.goes cou
 pub write_waiting-requires-clause-racks : goal.write_waiting-requires-clause-racks
 write_waiting-requires-clause-racks g c =
     let inv = c.loop-progress.invariant in
-    let are = inv.room_is.ahead.is_strip.planes.count in
+    let are = inv.workspace_is.ahead.is_strip.planes.count in
     let count = c.requires.headers.count in
     let enough = c.requires.racks in
     let same = inv.racks_same in
@@ -69,17 +69,17 @@ returns-in-Ok-write_waiting-clause-last g c =
     let inv = c.loop-progress.invariant in
     record { hand = inv.hand; last = subst (λ (p : Progress). c.args.plan.now.down.side ≤ p.at) inv.progress_is c.loop-progress-test.false }
 
-pub returns-in-Ok-write_waiting-clause-room : goal.returns-in-Ok-write_waiting-clause-room
-returns-in-Ok-write_waiting-clause-room g c =
-    let bare = c.args.bare.now in
+pub returns-in-Ok-write_waiting-clause-workspace : goal.returns-in-Ok-write_waiting-clause-workspace
+returns-in-Ok-write_waiting-clause-workspace g c =
+    let outline = c.args.outline.now in
     let plan = c.args.plan.now in
-    let is = c.loop-progress.invariant.room_is in
+    let is = c.loop-progress.invariant.workspace_is in
     let put = c.write_waiting.ensures in
     record {
       strip = is.strip;
-      ahead = subst (IsSomeStrip bare plan) (sym put.strip) is.ahead;
+      ahead = subst (IsSomeStrip outline plan) (sym put.strip) is.ahead;
       one = is.one;
-      other = subst (CanHoldStrip bare plan) (sym put.windows) is.other;
+      other = subst (CanHoldStrip outline plan) (sym put.windows) is.other;
       line = (let l = is.line in let e = put.line in omega (arith, l, e));
       bytes = (let e = put.bytes in let b = is.bytes in omega (arith, e, b));
       pieces = is.pieces;
@@ -95,7 +95,7 @@ returns-in-Ok-write_waiting-clause-reaches g c course none awaits =
 
 pub returns-in-Err-write_waiting-clause-reaches : goal.returns-in-Err-write_waiting-clause-reaches
 returns-in-Err-write_waiting-clause-reaches g c course none awaits =
-    (c.loop-progress.invariant.awaits course none awaits).unwritten (map g.R.Rack.state c.write_waiting.new.racks) c.in-Err-write_waiting.refusal c.in-Err-write_waiting.ensures.written
+    (c.loop-progress.invariant.awaits course none awaits).unwritten (map g.R.Rack.state c.write_waiting.new.racks) c.in-Err-write_waiting.common_error c.in-Err-write_waiting.ensures.written
 
 pub loop-progress-smaller : goal.loop-progress-smaller
 loop-progress-smaller g c = grind (arith, common_steps)

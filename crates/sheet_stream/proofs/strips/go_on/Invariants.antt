@@ -2,7 +2,7 @@
 use Rattle.std.proofs.Common.{◌≡◌, ◌-◌, length, map}
 use Rattle.sheet_stream.specs.Courses.{AwaitsCore, Course}
 use Rattle.sheet_stream.specs.Going.{IsProgress, IsStripRow, gone_on}
-use Rattle.sheet_stream.specs.Rooms.{IsStreamRoom}
+use Rattle.sheet_stream.specs.Workspaces.{IsStreamWorkspace}
 use Rattle.sheet_stream.specs.Waiting.{IsWaiting}
 use Rattle.sheet_engine.specs.declared.counts.SheetCounts.{SheetCounts}
 use Rattle.sheet_stream.proofs.strips.go_on.Given as goal
@@ -14,10 +14,10 @@ invariant-loop-progress g l = record {
   hand : IsStripRow l.plan.down l.row;
   progress_is : l.progress ≡ gone_on l.row;
   progress_valid : IsProgress l.plan.down l.progress;
-  room_is : IsStreamRoom l.bare l.plan l.room;
-  waiting : IsWaiting l.plan l.last l.room.ahead l.room.core;
-  awaits : (course : Course) (none : SheetCounts) → AwaitsCore course l.bare l.plan l.plates none l.first l.second (map g.T.Tray.state l.fn.trays) (map g.R.Rack.state l.fn.racks) l.fn.room
-      → AwaitsCore course l.bare l.plan l.plates none l.last l.row (map g.T.Tray.state l.trays) (map g.R.Rack.state l.racks) l.room;
+  workspace_is : IsStreamWorkspace l.outline l.plan l.workspace;
+  waiting : IsWaiting l.plan l.last l.workspace.ahead l.workspace.core;
+  awaits : (course : Course) (none : SheetCounts) → AwaitsCore course l.outline l.plan l.plates none l.first l.second (map g.T.Tray.state l.fn.trays) (map g.R.Rack.state l.fn.racks) l.fn.workspace
+      → AwaitsCore course l.outline l.plan l.plates none l.last l.row (map g.T.Tray.state l.trays) (map g.R.Rack.state l.racks) l.workspace;
 }
 
 abbrev pub decreases-loop-progress : goal.decreases-loop-progress

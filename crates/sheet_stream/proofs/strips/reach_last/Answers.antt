@@ -28,7 +28,7 @@ go_on-requires-clause-way g c κs within =
 pub returns-in-Ok-clause-reaches : goal.returns-in-Ok-clause-reaches
 returns-in-Ok-clause-reaches g c =
     let racks = map g.R.Rack.state c.args.racks.now in
-    reached c.args.bare.now c.args.plan.now c.args.plates.now c.args.first.now c.next_row-second.result (map g.T.Tray.state c.args.trays.now) (map g.T.Tray.state c.trap_first.new.trays) (map g.T.Tray.state c.go_on.new.trays) racks (map g.R.Rack.state c.go_on.new.racks) c.args.room.now c.trap_first.new.room c.go_on.new.room c.go_on.result c.go_on.ensures.reaches
+    reached c.args.outline.now c.args.plan.now c.args.plates.now c.args.first.now c.next_row-second.result (map g.T.Tray.state c.args.trays.now) (map g.T.Tray.state c.trap_first.new.trays) (map g.T.Tray.state c.go_on.new.trays) racks (map g.R.Rack.state c.go_on.new.racks) c.args.workspace.now c.trap_first.new.workspace c.go_on.new.workspace c.go_on.result c.go_on.ensures.reaches
     (λ course none stands. c.in-Ok.ensures.goes course none racks stands)
 
 pub returns-in-Err-clause-reaches : goal.returns-in-Err-clause-reaches

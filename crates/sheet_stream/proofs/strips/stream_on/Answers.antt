@@ -10,16 +10,16 @@ put_last-requires-clause-trap g c κs within =
     let way = c.requires.way in
     let did = c.in-Ok.ensures in
     let stands = did.reaches way.course way.none way.stands in
-    trappable c.args.bare.now c.args.plan.now c.args.plates.now c.in-Ok.row c.requires.can did.last.hand c.reach_last.new.room
+    trappable c.args.outline.now c.args.plan.now c.args.plates.now c.in-Ok.row c.requires.can did.last.hand c.reach_last.new.workspace
     (map g.T.Tray.state c.reach_last.new.trays) way.course way.none stands.at
-    way.empty c.reach_last.new.room.core.windows did.room.other
+    way.empty c.reach_last.new.workspace.core.windows did.workspace.other
 
 pub put_last-requires-clause-racks : goal.put_last-requires-clause-racks
 put_last-requires-clause-racks g c κs within =
     let way = c.requires.way in
     let did = c.in-Ok.ensures in
     let stands = did.reaches way.course way.none way.stands in
-    let are = plates_are c.args.bare.now c.args.plan.now c.args.plates.now c.in-Ok.row c.requires.can did.last.hand c.reach_last.new.room
+    let are = plates_are c.args.outline.now c.args.plan.now c.args.plates.now c.in-Ok.row c.requires.can did.last.hand c.reach_last.new.workspace
     (map g.T.Tray.state c.reach_last.new.trays) way.course way.none stands.at in
     let count = c.requires.headers.count in
     let enough = c.requires.racks in
@@ -31,7 +31,7 @@ put_last-requires-clause-open g c κs within =
     let way = c.requires.way in
     let did = c.in-Ok.ensures in
     let stands = did.reaches way.course way.none way.stands in
-    are_open c.args.bare.now c.args.plan.now c.args.plates.now c.in-Ok.row c.requires.can did.last.hand c.reach_last.new.room
+    are_open c.args.outline.now c.args.plan.now c.args.plates.now c.in-Ok.row c.requires.can did.last.hand c.reach_last.new.workspace
     (map g.T.Tray.state c.reach_last.new.trays) way.course way.none stands.at
     (map g.R.Rack.state c.reach_last.new.racks) stands.written
 
@@ -40,25 +40,25 @@ put_last-requires-clause-line g c κs within =
     let way = c.requires.way in
     let did = c.in-Ok.ensures in
     let stands = did.reaches way.course way.none way.stands in
-    line_long c.args.bare.now c.args.plan.now c.args.plates.now c.in-Ok.row c.requires.can did.last.hand c.reach_last.new.room
+    line_long c.args.outline.now c.args.plan.now c.args.plates.now c.in-Ok.row c.requires.can did.last.hand c.reach_last.new.workspace
     (map g.T.Tray.state c.reach_last.new.trays) way.course way.none stands.at
-    (length c.reach_last.new.room.core.line.items) did.room.line
+    (length c.reach_last.new.workspace.core.line.items) did.workspace.line
 
 pub put_last-requires-clause-maxval : goal.put_last-requires-clause-maxval
 put_last-requires-clause-maxval g c κs within =
     let way = c.requires.way in
     let did = c.in-Ok.ensures in
     let stands = did.reaches way.course way.none way.stands in
-    deep_is c.args.bare.now c.args.plan.now c.args.plates.now c.in-Ok.row c.requires.can did.last.hand c.reach_last.new.room
+    deep_is c.args.outline.now c.args.plan.now c.args.plates.now c.in-Ok.row c.requires.can did.last.hand c.reach_last.new.workspace
     (map g.T.Tray.state c.reach_last.new.trays) way.course way.none stands.at
 
 pub returns-in-Ok-put_last : goal.returns-in-Ok-put_last
 returns-in-Ok-put_last g c course none stands =
-    let bare = c.args.bare.now in
+    let outline = c.args.outline.now in
     let plan = c.args.plan.now in
     let begun = c.args.plates.now in
     let row = c.in-Ok.row in
-    let room = c.reach_last.new.room in
+    let workspace = c.reach_last.new.workspace in
     let trays = map g.T.Tray.state c.reach_last.new.trays in
     let racks = map g.R.Rack.state c.reach_last.new.racks in
     let ask = c.requires in
@@ -66,17 +66,17 @@ returns-in-Ok-put_last g c course none stands =
     let hand = did.last.hand in
     let now = did.reaches course none stands in
     let racks' = map g.R.Rack.state c.put_last.new.racks in
-    ends course bare plan begun none c.put_last.new.room.counts row trays racks racks' room ask.can ask.headers hand did.last.last now
-    (written_on bare plan begun row ask.can hand room trays course none now.at racks now.written racks' c.in-Ok-put_last.ensures.written)
-    (counted_on bare plan begun row ask.can hand room trays course none now.at room.core.windows c.put_last.new.room.core.windows c.put_last.new.room.counts c.put_last.ensures.trapped)
+    ends course outline plan begun none c.put_last.new.workspace.counts row trays racks racks' workspace ask.can ask.headers hand did.last.last now
+    (written_on outline plan begun row ask.can hand workspace trays course none now.at racks now.written racks' c.in-Ok-put_last.ensures.written)
+    (counted_on outline plan begun row ask.can hand workspace trays course none now.at workspace.core.windows c.put_last.new.workspace.core.windows c.put_last.new.workspace.counts c.put_last.ensures.trapped)
 
 pub returns-in-Err-put_last : goal.returns-in-Err-put_last
 returns-in-Err-put_last g c course none stands =
-    let bare = c.args.bare.now in
+    let outline = c.args.outline.now in
     let plan = c.args.plan.now in
     let begun = c.args.plates.now in
     let row = c.in-Ok.row in
-    let room = c.reach_last.new.room in
+    let workspace = c.reach_last.new.workspace in
     let trays = map g.T.Tray.state c.reach_last.new.trays in
     let racks = map g.R.Rack.state c.reach_last.new.racks in
     let ask = c.requires in
@@ -84,7 +84,7 @@ returns-in-Err-put_last g c course none stands =
     let hand = did.last.hand in
     let now = did.reaches course none stands in
     let racks' = map g.R.Rack.state c.put_last.new.racks in
-    unwritten bare plan begun row ask.can hand room trays course none now.at racks now.written racks' trays now.at.holds.samples now.at.holds.read (λ one begins. begins) c.in-Err-put_last.refusal c.in-Err-put_last.ensures.written
+    unwritten outline plan begun row ask.can hand workspace trays course none now.at racks now.written racks' trays now.at.holds.samples now.at.holds.read (λ one begins. begins) c.in-Err-put_last.common_error c.in-Err-put_last.ensures.written
 
 pub returns-in-Err : goal.returns-in-Err
 returns-in-Err g c course none stands = c.in-Err.ensures.reaches course none stands

@@ -1,27 +1,27 @@
 -- What `hold_begun` has to show.
 use Rattle.std.proofs.lemmas.Grind.{common_steps}
 use Rattle.std.proofs.Common.{arith, map}
-use Rattle.sheet_stream.proofs.HeldLemmas.{all_to_read, held_end, reading_stopped, rows_can_end}
+use Rattle.sheet_stream.proofs.StoredLemmas.{all_to_read, stored_end, reading_stopped, rows_can_end}
 use Rattle.sheet_stream.proofs.whole.hold_begun.Goals as goal
 
 pub read_strip-requires-clause-read : goal.read_strip-requires-clause-read
 read_strip-requires-clause-read g c =
     let there = c.requires.read in
     let trays = map g.T.Tray.state c.args.trays.now in
-    all_to_read there.inputs c.args.bare.now c.args.plates.now c.requires.headers there.start trays trays c.args.sheet.now c.args.sheet.now c.requires.room there.read
+    all_to_read there.inputs c.args.outline.now c.args.plates.now c.requires.headers there.start trays trays c.args.sheet.now c.args.sheet.now c.requires.workspace there.read
 
 pub returns-in-Ok : goal.returns-in-Ok
 returns-in-Ok g c inputs start read =
-    held_end inputs c.args.bare.now c.args.plates.now c.requires.headers start (map g.T.Tray.state c.args.trays.now) (map g.T.Tray.state c.read_strip.new.trays) c.args.sheet.now c.read_strip.new.strip c.requires.room read c.in-Ok.ensures (map g.T.Tray.state c.end_plates.new.trays) c.end_plates.result c.end_plates.ensures
+    stored_end inputs c.args.outline.now c.args.plates.now c.requires.headers start (map g.T.Tray.state c.args.trays.now) (map g.T.Tray.state c.read_strip.new.trays) c.args.sheet.now c.read_strip.new.strip c.requires.workspace read c.in-Ok.ensures (map g.T.Tray.state c.end_plates.new.trays) c.end_plates.result c.end_plates.ensures
 
 pub returns-in-Err : goal.returns-in-Err
 returns-in-Err g c inputs start read =
-    reading_stopped inputs c.args.bare.now c.args.plates.now c.requires.headers start (map g.T.Tray.state c.args.trays.now) (map g.T.Tray.state c.read_strip.new.trays) c.args.sheet.now c.read_strip.new.strip c.requires.room read c.in-Err.stop c.in-Err.ensures
+    reading_stopped inputs c.args.outline.now c.args.plates.now c.requires.headers start (map g.T.Tray.state c.args.trays.now) (map g.T.Tray.state c.read_strip.new.trays) c.args.sheet.now c.read_strip.new.strip c.requires.workspace read c.in-Err.error c.in-Err.ensures
 
 pub end_plates-requires-clause-begun : goal.end_plates-requires-clause-begun
 end_plates-requires-clause-begun g c k l =
     let there = c.requires.read in
-    (rows_can_end there.inputs c.args.bare.now c.args.plates.now c.requires.headers there.start (map g.T.Tray.state c.args.trays.now) (map g.T.Tray.state c.read_strip.new.trays) c.args.sheet.now c.read_strip.new.strip c.requires.room there.read c.in-Ok.ensures k l).is_begun
+    (rows_can_end there.inputs c.args.outline.now c.args.plates.now c.requires.headers there.start (map g.T.Tray.state c.args.trays.now) (map g.T.Tray.state c.read_strip.new.trays) c.args.sheet.now c.read_strip.new.strip c.requires.workspace there.read c.in-Ok.ensures k l).is_begun
 
 pub end_plates-requires-clause-counts : goal.end_plates-requires-clause-counts
 end_plates-requires-clause-counts g c = grind (arith, common_steps)

@@ -13,10 +13,10 @@ hold_begun-requires-clause-headers g c =
     let n : ℕ = length c.args.inputs.now in
     let n_is : n ≡ length inputs = sym (length-map c.args.inputs.now g.S.AsStr.text) in
     let header = c.args.header in
-    let few : n ≤ 16 = (let a = c.requires.inputs in let b = c.requires.bare.parts.few_plates in omega (arith, a, b)) in
+    let few : n ≤ 16 = (let a = c.requires.inputs in let b = c.requires.outline.parts.few_plates in omega (arith, a, b)) in
     let start = map g.T.Tray.state c.args.trays.now in
     let long = c.begin_plates.auto.plates in
-    have_headers inputs c.args.bare.now header (replicate 16 header) c.begin_plates.new.plates start (map g.T.Tray.state c.begin_plates.new.trays) c.requires.header
+    have_headers inputs c.args.outline.now header (replicate 16 header) c.begin_plates.new.plates start (map g.T.Tray.state c.begin_plates.new.trays) c.requires.header
     (λ k l. sixteen header k (omega (arith, l, few, n_is))) (sym n_is ∙ c.requires.inputs) n n_is (omega (arith, few, n_is, long)) c.in-Ok.ensures
 
 pub hold_begun-requires-clause-read : goal.hold_begun-requires-clause-read
@@ -25,13 +25,13 @@ hold_begun-requires-clause-read g c =
     let n : ℕ = length c.args.inputs.now in
     let n_is : n ≡ length inputs = sym (length-map c.args.inputs.now g.S.AsStr.text) in
     let header = c.args.header in
-    let few : n ≤ 16 = (let a = c.requires.inputs in let b = c.requires.bare.parts.few_plates in omega (arith, a, b)) in
+    let few : n ≤ 16 = (let a = c.requires.inputs in let b = c.requires.outline.parts.few_plates in omega (arith, a, b)) in
     let start = map g.T.Tray.state c.args.trays.now in
     let long = c.begin_plates.auto.plates in
     record {
       inputs = inputs;
       start = start;
-      read = are_begun inputs c.args.bare.now header (replicate 16 header) c.begin_plates.new.plates start (map g.T.Tray.state c.begin_plates.new.trays) c.requires.header
+      read = are_begun inputs c.args.outline.now header (replicate 16 header) c.begin_plates.new.plates start (map g.T.Tray.state c.begin_plates.new.trays) c.requires.header
           (λ k l. sixteen header k (omega (arith, l, few, n_is))) (sym n_is ∙ c.requires.inputs) n n_is (omega (arith, few, n_is, long)) c.in-Ok.ensures;
     }
 
@@ -41,10 +41,10 @@ returns-in-Ok g c =
     let n : ℕ = length c.args.inputs.now in
     let n_is : n ≡ length inputs = sym (length-map c.args.inputs.now g.S.AsStr.text) in
     let header = c.args.header in
-    let few : n ≤ 16 = (let a = c.requires.inputs in let b = c.requires.bare.parts.few_plates in omega (arith, a, b)) in
+    let few : n ≤ 16 = (let a = c.requires.inputs in let b = c.requires.outline.parts.few_plates in omega (arith, a, b)) in
     let start = map g.T.Tray.state c.args.trays.now in
     let long = c.begin_plates.auto.plates in
-    c.hold_begun.ensures inputs start (are_begun inputs c.args.bare.now header (replicate 16 header) c.begin_plates.new.plates start (map g.T.Tray.state c.begin_plates.new.trays) c.requires.header
+    c.hold_begun.ensures inputs start (are_begun inputs c.args.outline.now header (replicate 16 header) c.begin_plates.new.plates start (map g.T.Tray.state c.begin_plates.new.trays) c.requires.header
     (λ k l. sixteen header k (omega (arith, l, few, n_is))) (sym n_is ∙ c.requires.inputs) n n_is (omega (arith, few, n_is, long)) c.in-Ok.ensures)
 
 pub returns-in-Err : goal.returns-in-Err
@@ -53,10 +53,10 @@ returns-in-Err g c =
     let n : ℕ = length c.args.inputs.now in
     let n_is : n ≡ length inputs = sym (length-map c.args.inputs.now g.S.AsStr.text) in
     let header = c.args.header in
-    let few : n ≤ 16 = (let a = c.requires.inputs in let b = c.requires.bare.parts.few_plates in omega (arith, a, b)) in
+    let few : n ≤ 16 = (let a = c.requires.inputs in let b = c.requires.outline.parts.few_plates in omega (arith, a, b)) in
     let start = map g.T.Tray.state c.args.trays.now in
-    not_begun_again inputs c.args.bare.now header (replicate 16 header) c.begin_plates.new.plates start (map g.T.Tray.state c.begin_plates.new.trays) c.requires.header
-    (λ k l. sixteen header k (omega (arith, l, few, n_is))) (sym n_is ∙ c.requires.inputs) n n_is c.in-Err.stop c.in-Err.ensures
+    not_begun_again inputs c.args.outline.now header (replicate 16 header) c.begin_plates.new.plates start (map g.T.Tray.state c.begin_plates.new.trays) c.requires.header
+    (λ k l. sixteen header k (omega (arith, l, few, n_is))) (sym n_is ∙ c.requires.inputs) n n_is c.in-Err.error c.in-Err.ensures
 
 pub hold_begun-requires-clause-trays : goal.hold_begun-requires-clause-trays
 hold_begun-requires-clause-trays g c = grind (arith, common_steps)

@@ -31,7 +31,7 @@ pub loop-k-init : goal.loop-k-init
 loop-k-init c = record {
   end = refl;
   buffers = c.requires.buffers;
-  room = refl;
+  workspace = refl;
   outcome = subst (λ (n : ℕ). IsTaken c.args.page.now n c.args.counted c.args.outcome.now) (let same : c.args.rows.first ≡ c.args.rows.first + 0 = omega arith in same) c.requires.outcome;
 }
 

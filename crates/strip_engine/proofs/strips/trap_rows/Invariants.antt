@@ -8,6 +8,6 @@ abbrev pub invariant-loop-k : goal.invariant-loop-k
 invariant-loop-k l = record {
   end : l.k-end ≡ l.rows.count;
   buffers : AreBuffers l.page l.buffers;
-  room : l.room ≡ l.initial.room;
+  workspace : l.workspace ≡ l.initial.workspace;
   outcome : IsTaken l.page (l.rows.first + l.k) l.counted l.outcome;
 }

@@ -10,7 +10,7 @@ invariant-loop-first l = record {
   inside : l.first ≤ height l.page;
   codes : length l.codes ≡ length l.initial.codes;
   buffers : AreBuffers l.page l.buffers;
-  room : l.room ≡ l.initial.room;
+  workspace : l.workspace ≡ l.initial.workspace;
   outcome : IsTaken l.page l.first l.counted l.outcome;
 }
 

@@ -1,7 +1,7 @@
 -- read_page: reads the page of the command's job and plates.
 use Rattle.std.proofs.lemmas.Grind.{common_steps}
 use Rattle.std.proofs.Common.{ℕ, List, Bor, map, ap, ◌∙◌, subst, arith, inr}
-use Rattle.trap_cli.specs.Held.{plates_in}
+use Rattle.trap_cli.specs.Stored.{plates_in}
 use Rattle.plain_words.specs.Plates.{inputs_of, names_of}
 use Rattle.page_files.specs.Gathering.{Gathers}
 use Rattle.page_files.specs.Inputs.{sources}

@@ -1,6 +1,6 @@
 -- write_out: traps the page and writes its files, and gives the receipt.
 use Rattle.std.proofs.Common.{ℕ, List, Bor, length, map, ap, sym, ◌∙◌, subst}
-use Rattle.trap_cli.specs.Held.{page_in, plates_in}
+use Rattle.trap_cli.specs.Stored.{page_in, plates_in}
 use Rattle.plain_words.specs.Plates.{outputs_of}
 use Rattle.trap_cli.specs.Commands.{targets_of}
 use Rattle.page_output.specs.Output.{PutsOut, targets}

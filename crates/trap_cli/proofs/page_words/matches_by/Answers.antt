@@ -17,6 +17,6 @@ pub returns-in-Err : goal.returns-in-Err
 returns-in-Err c =
     let words : List (List ℕ) = map (string_bytes {Z = Global}) c.args.words.now in
     record {
-      taken = nothing_taken c.without_matches.result (app_of c.args.command) words _ _ c.requires c.kind.ensures c.in-Err.ensures.kinds c.without_matches.ensures.none c.without_matches.ensures.cause;
+      taken = nothing_taken c.without_matches.result (app_of c.args.command) words _ _ c.requires c.kind.ensures c.in-Err.ensures.kinds c.without_matches.ensures.none c.without_matches.ensures.reason;
       rows = nothing_found c.without_matches.result _ c.without_matches.ensures.none;
     }

@@ -1,5 +1,5 @@
 -- What `sample_outcome` has to show.
-use Rattle.trap_cli.specs.Held.{sample_in}
+use Rattle.trap_cli.specs.Stored.{sample_in}
 use Rattle.trap_cli.proofs.SampleLemmas.{is_small, report_made}
 use Rattle.trap_cli.proofs.sample.sample_outcome.Goals as goal
 

@@ -1,7 +1,7 @@
 -- What `run` has to show.
 use Rattle.std.proofs.Common.{Some, refl, sym, ap, ◌∙◌}
 use Rattle.std.specs.Option.{option_map}
-use Rattle.trap_cli.specs.Held.{command_in, page_in, sample_in}
+use Rattle.trap_cli.specs.Stored.{command_in, page_in, sample_in}
 use Rattle.trap_cli.specs.declared.command.Command.{Command}
 use Rattle.trap_cli.specs.Endings.Ends.{page, sample}
 use Rattle.trap_cli.proofs.top.run.Goals as goal

@@ -6,6 +6,6 @@ use Rattle.trap_color.proofs.sample.trap_by.Goals as goal
 
 pub returns-then-not-trapped-clause-tints : goal.returns-then-not-trapped-clause-tints
 returns-then-not-trapped-clause-tints c = λ k l.
-    let told = c.is_trapped-trapped.ensures in
-    let not_here : trapped_in c.args.page.now c.args.zone c.args.p c.args.e ≡ false = grind (arith, told) in
+    let reported = c.is_trapped-trapped.ensures in
+    let not_here : trapped_in c.args.page.now c.args.zone c.args.p c.args.e ≡ false = grind (arith, reported) in
     c.keep_tints.ensures.tints k l ∙ sym (kept_in c.args.page.now c.args.zone c.args.p c.args.e k not_here)

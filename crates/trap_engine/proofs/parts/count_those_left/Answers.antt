@@ -19,7 +19,7 @@ loop-i-preserved c =
         | inl e ↦ rw (e, get_or-set_same parts k one d within) (c.count_left.ensures.rows ∙ ap (λ (p : Part). p.rows) (sym c.index-parts-i.is ∙ get_or_read parts k c.index-parts-i.result within c.index-parts-i.is d))
         | inr ne ↦ rw (get_or-set_other parts k j one d ne) refl
       ]) v.cover;
-      room = one_kept c.args.parts.now parts k one within (λ d. subst (λ (p : Part). KeepsTally p.tally one.tally) (sym c.index-parts-i.is ∙ get_or_read parts k c.index-parts-i.result within c.index-parts-i.is d) c.count_left.ensures.room) v.room;
+      workspace = one_kept c.args.parts.now parts k one within (λ d. subst (λ (p : Part). KeepsTally p.tally one.tally) (sym c.index-parts-i.is ∙ get_or_read parts k c.index-parts-i.result within c.index-parts-i.is d) c.count_left.ensures.workspace) v.workspace;
       done = λ j d l m. elim (cases_eq j k) [
         | inl e ↦ rw (e, get_or-set_same parts k one d within) c.count_left.ensures.part
         | inr ne ↦ rw (get_or-set_other parts k j one d ne) (v.done j d (omega (arith, l, ne)) (omega (arith, m, length-set parts k one)))

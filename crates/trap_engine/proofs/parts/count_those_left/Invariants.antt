@@ -10,7 +10,7 @@ abbrev pub invariant-loop-i : goal.invariant-loop-i
 invariant-loop-i l = record {
   end : l.i-end ≡ length l.parts;
   cover : CoverPage l.page l.parts;
-  room : KeepsParts l.initial.parts l.parts;
+  workspace : KeepsParts l.initial.parts l.parts;
   done : (j : ℕ) (d : Part) → j < l.i → j < length l.parts → IsCounted l.page (slice_index_or l.parts j d);
   rest : (j : ℕ) (d : Part) → l.i ≤ j → j < length l.parts → IsPart l.page (slice_index_or l.parts j d);
 }

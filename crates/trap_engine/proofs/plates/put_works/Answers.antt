@@ -33,11 +33,11 @@ loop-work-preserved c =
         few_edges = rw p.edges v.counted.few_edges;
         changes = rw p.changes v.counted.changes;
       };
-      room = record {
-        zone_samples = p.room.zone_samples ∙ v.room.zone_samples;
-        zone_changed = p.room.zone_changed ∙ v.room.zone_changed;
-        plate_changed = p.room.plate_changed ∙ v.room.plate_changed;
-        changes = p.room.changes ∙ v.room.changes;
+      workspace = record {
+        zone_samples = p.workspace.zone_samples ∙ v.workspace.zone_samples;
+        zone_changed = p.workspace.zone_changed ∙ v.workspace.zone_changed;
+        plate_changed = p.workspace.plate_changed ∙ v.workspace.plate_changed;
+        changes = p.workspace.changes ∙ v.workspace.changes;
       };
       few = omega (arith, v.few, one_more, c.len.ensures);
       works = λ j d l. fewer_taken page works work n long all j d (omega (arith, l, c.len.ensures));

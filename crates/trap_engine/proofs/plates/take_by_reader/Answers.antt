@@ -9,5 +9,5 @@ returns-clause-work c = grind (arith, common_steps)
 pub take_plate-work-requires-clause-known : goal.take_plate-work-requires-clause-known
 take_plate-work-requires-clause-known c = grind (arith, common_steps)
 
-pub take_plate-work-requires-clause-room : goal.take_plate-work-requires-clause-room
-take_plate-work-requires-clause-room c = grind (arith, common_steps)
+pub take_plate-work-requires-clause-workspace : goal.take_plate-work-requires-clause-workspace
+take_plate-work-requires-clause-workspace c = grind (arith, common_steps)

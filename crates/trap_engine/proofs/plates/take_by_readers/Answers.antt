@@ -9,5 +9,5 @@ use Rattle.trap_engine.proofs.plates.take_by_readers.Goals as goal
 pub for_each_mut-requires-sync-F : goal.for_each_mut-requires-sync-F
 for_each_mut-requires-sync-F g c = search (sendable, shared_sync, pass_send, page.the_sync) depth 14
 
-pub returns-clause-room : goal.returns-clause-room
-returns-clause-room g c = grind (arith, common_steps)
+pub returns-clause-workspace : goal.returns-clause-workspace
+returns-clause-workspace g c = grind (arith, common_steps)

@@ -3,7 +3,7 @@
 use Rattle.std.proofs.lemmas.Grind.{common_steps}
 use Rattle.std.proofs.Common.{◌∙◌, arith, refl}
 use Rattle.page_tally.proofs.CountLemmas.{row_counted}
-use Rattle.trap_engine.proofs.TakeLemmas.{changed_fits, none_changed, none_held, plate_all}
+use Rattle.trap_engine.proofs.TakeLemmas.{changed_fits, none_changed, none_stored, plate_all}
 use Rattle.trap_engine.proofs.plates.take_plate.Goals as goal
 
 pub loop-y-init : goal.loop-y-init
@@ -11,8 +11,8 @@ loop-y-init g c = record {
   end = c.height-y-end.ensures.value;
   seat = refl;
   row = c.requires.row;
-  room = c.requires.room;
-  tints = none_held c.args.page.now c.args.c c.args.tints.now.items c.requires.none;
+  workspace = c.requires.workspace;
+  tints = none_stored c.args.page.now c.args.c c.args.tints.now.items c.requires.none;
   changed = none_changed _ _;
 }
 
@@ -31,8 +31,8 @@ read_plate-requires-clause-known g c = rw c.loop-y.invariant.seat c.requires.kno
 pub add_row-changed-requires-clause-row : goal.add_row-changed-requires-clause-row
 add_row-changed-requires-clause-row g c = record { long = c.read_plate.ensures.len ∙ c.loop-y.invariant.row; each = c.read_plate.ensures.tints }
 
-pub add_row-changed-requires-clause-room : goal.add_row-changed-requires-clause-room
-add_row-changed-requires-clause-room g c = c.loop-y.invariant.room
+pub add_row-changed-requires-clause-workspace : goal.add_row-changed-requires-clause-workspace
+add_row-changed-requires-clause-workspace g c = c.loop-y.invariant.workspace
 
 pub overflow_add-changed : goal.overflow_add-changed
 overflow_add-changed g c = omega (arith, changed_fits c.args.page.now c.loop-y.y c.args.c c.loop-y.changed c.add_row-changed.result c.plates-valid.ensures.valid (omega arith) c.add_row-changed.ensures.few c.loop-y.invariant.changed)
@@ -42,7 +42,7 @@ loop-y-preserved g c = record {
   end = c.loop-y.invariant.end;
   seat = c.read_plate.ensures.seat ∙ c.loop-y.invariant.seat;
   row = c.read_plate.ensures.len ∙ c.loop-y.invariant.row;
-  room = omega (arith, c.add_row-changed.ensures.room, c.loop-y.invariant.room);
+  workspace = omega (arith, c.add_row-changed.ensures.workspace, c.loop-y.invariant.workspace);
   tints = c.add_row-changed.ensures.tints;
   changed = row_counted c.args.page.now c.loop-y.y c.args.c c.loop-y.changed c.add_row-changed.result c.loop-y.invariant.changed c.add_row-changed.ensures.count;
 }

@@ -13,7 +13,7 @@ invariant-loop-y g l = record {
   end : l.y-end ≡ height l.page;
   seat : l.seat ≡ l.initial.seat;
   row : length l.row ≡ width l.page;
-  room : samples l.page ≤ vec_capacity l.tints;
+  workspace : samples l.page ≤ vec_capacity l.tints;
   tints : HasTaken l.page l.c (l.y * width l.page) l.tints.items;
   changed : l.changed ≡ count_below (λ k. plate_changes l.page l.c (sample_at l.page k)) (l.y * width l.page);
 }

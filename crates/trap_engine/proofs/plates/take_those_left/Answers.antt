@@ -15,7 +15,7 @@ loop-c-preserved c =
     record {
       end = v.end;
       count = length-set works k one ∙ v.count;
-      room = work_kept c.args.works.now works k one within (λ d. c.take_left.ensures.room ∙ ap (λ (w : PlateWork). vec_capacity w.row) (sym c.index-works-c.is ∙ get_or_read works k c.index-works-c.result within c.index-works-c.is d)) v.room;
+      workspace = work_kept c.args.works.now works k one within (λ d. c.take_left.ensures.workspace ∙ ap (λ (w : PlateWork). vec_capacity w.row) (sym c.index-works-c.is ∙ get_or_read works k c.index-works-c.result within c.index-works-c.is d)) v.workspace;
       done = λ j d l. elim (cases_eq j k) [
         | inl e ↦ rw (e, get_or-set_same works k one d within) c.take_left.ensures.taken
         | inr ne ↦ rw (get_or-set_other works k j one d ne) (v.done j d (omega (arith, l, ne)))

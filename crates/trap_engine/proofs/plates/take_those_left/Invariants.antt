@@ -11,7 +11,7 @@ abbrev pub invariant-loop-c : goal.invariant-loop-c
 invariant-loop-c l = record {
   end : l.c-end ≡ plates l.page;
   count : length l.works ≡ plates l.page;
-  room : KeepsWorks l.initial.works l.works;
+  workspace : KeepsWorks l.initial.works l.works;
   done : (j : ℕ) (d : PlateWork) → j < l.c → IsTakenPlate l.page j (slice_index_or l.works j d).tints.items (slice_index_or l.works j d).changed;
   rest : (j : ℕ) (d : PlateWork) → l.c ≤ j → j < plates l.page → IsPlateWork l.page j (slice_index_or l.works j d);
 }

@@ -12,8 +12,8 @@ add_parts-requires-clause-plates c = grind (arith, common_steps)
 pub add_parts-requires-clause-parts : goal.add_parts-requires-clause-parts
 add_parts-requires-clause-parts c = grind (arith, common_steps)
 
-pub returns-clause-parts_room : goal.returns-clause-parts_room
-returns-clause-parts_room c = grind (arith, common_steps)
+pub returns-clause-parts_workspace : goal.returns-clause-parts_workspace
+returns-clause-parts_workspace c = grind (arith, common_steps)
 
 pub returns-clause-rows : goal.returns-clause-rows
 returns-clause-rows c = grind (arith, common_steps)

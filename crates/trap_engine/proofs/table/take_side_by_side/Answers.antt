@@ -3,8 +3,8 @@ use Rattle.std.proofs.Common.{arith}
 use Rattle.std.proofs.lemmas.Grind.{common_steps}
 use Rattle.trap_engine.proofs.table.take_side_by_side.Goals as goal
 
-pub returns-then-not-are_taken-clause-left_room : goal.returns-then-not-are_taken-clause-left_room
-returns-then-not-are_taken-clause-left_room g c = grind (arith, common_steps)
+pub returns-then-not-are_taken-clause-left_workspace : goal.returns-then-not-are_taken-clause-left_workspace
+returns-then-not-are_taken-clause-left_workspace g c = grind (arith, common_steps)
 
 pub returns-then-not-are_taken-clause-left : goal.returns-then-not-are_taken-clause-left
 returns-then-not-are_taken-clause-left g c = grind (arith, common_steps)
@@ -15,8 +15,8 @@ put_works-requires-clause-works g c = grind (arith, common_steps)
 pub put_works-requires-clause-counted : goal.put_works-requires-clause-counted
 put_works-requires-clause-counted g c = grind (arith, common_steps)
 
-pub returns-clause-parts_room : goal.returns-clause-parts_room
-returns-clause-parts_room g c = grind (arith, common_steps)
+pub returns-clause-parts_workspace : goal.returns-clause-parts_workspace
+returns-clause-parts_workspace g c = grind (arith, common_steps)
 
 pub returns-clause-parts : goal.returns-clause-parts
 returns-clause-parts g c = grind (arith, common_steps)

@@ -8,6 +8,6 @@ abbrev pub invariant-loop-k : goal.invariant-loop-k
 invariant-loop-k g l = record {
   end : l.k-end ≡ l.rows.count;
   seat : l.seat ≡ l.initial.seat;
-  room : KeepsTally l.initial.tally l.tally;
+  workspace : KeepsTally l.initial.tally l.tally;
   tally : HasCounted l.page l.rows.first (l.rows.first + l.k) l.tally;
 }

@@ -26,9 +26,9 @@ loop-number-preserved g c =
       count = ap length pushed ∙ length-append c.loop-number.gathered.items (reply ∷ []) ∙ ap (λ (m : ℕ). m + 1) before.count;
       used = ap (λ (m : ℕ). c.loop-number.used + m) c.accepted_samples-used.ensures ∙ ap (λ (m : ℕ). m + accepted_of reply.page reply.outcome) before.used ∙ sym (ap accepted pushed ∙ accepted_more c.loop-number.gathered.items reply);
       few = let limit = c.gather_line-line.ensures.limit in let took = c.accepted_samples-used.ensures in omega arith;
-      room = let kept = c.in-Ok.ensures.capacity in let room = before.room in omega arith;
+      workspace = let kept = c.in-Ok.ensures.capacity in let workspace = before.workspace in omega arith;
       pages = c.in-Ok-push.ensures.items ∙ (λ i. before.pages i ++ c.gather_line-line.ensures.waits i ∷ []) ∙ sym (ap pages_of pushed ∙ map-append waiting_of c.loop-number.gathered.items (reply ∷ []));
-      page_room = let kept = c.in-Ok-push.ensures.capacity in let room = before.page_room in omega arith;
+      page_workspace = let kept = c.in-Ok-push.ensures.capacity in let workspace = before.page_workspace in omega arith;
     }
 
 pub returns-clause-turn : goal.returns-clause-turn

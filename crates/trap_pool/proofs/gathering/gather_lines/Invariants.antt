@@ -11,7 +11,7 @@ invariant-loop-number g l = record {
   count : length l.gathered.items ≡ l.number;
   used : l.used ≡ accepted l.gathered.items;
   few : l.used ≤ most_in_all;
-  room : length l.lines ≤ vec_capacity l.gathered;
+  workspace : length l.lines ≤ vec_capacity l.gathered;
   pages : l.pages.items ≡ pages_of l.gathered.items;
-  page_room : length l.lines ≤ vec_capacity l.pages;
+  page_workspace : length l.lines ≤ vec_capacity l.pages;
 }

@@ -15,19 +15,19 @@ waiting_lines-numbers-requires-clause-numbered g c =
     let places = as_many_pages c.gather_lines-gathering.result.lines.items c.gather_lines-gathering.result.pages.items c.gather_lines-gathering.ensures.pages in
     omega arith
 
-pub waiting_lines-numbers-requires-clause-room : goal.waiting_lines-numbers-requires-clause-room
-waiting_lines-numbers-requires-clause-room g c =
+pub waiting_lines-numbers-requires-clause-workspace : goal.waiting_lines-numbers-requires-clause-workspace
+waiting_lines-numbers-requires-clause-workspace g c =
     let many = as_many 0 0 c.args.lines.now (g.T.Tray.state c.args.tray.now) (g.T.Tray.state c.gather_lines-gathering.new.tray) c.gather_lines-gathering.result.lines.items c.gather_lines-gathering.ensures.turn in
     let same = ap length c.as_slice.ensures.value in
     let places = as_many_pages c.gather_lines-gathering.result.lines.items c.gather_lines-gathering.result.pages.items c.gather_lines-gathering.ensures.pages in
-    let room = c.in-Ok.ensures.numbers in
+    let workspace = c.in-Ok.ensures.numbers in
     omega arith
 
-pub replies_of-requires-clause-room : goal.replies_of-requires-clause-room
-replies_of-requires-clause-room g c =
+pub replies_of-requires-clause-workspace : goal.replies_of-requires-clause-workspace
+replies_of-requires-clause-workspace g c =
     let many = as_many 0 0 c.args.lines.now (g.T.Tray.state c.args.tray.now) (g.T.Tray.state c.gather_lines-gathering.new.tray) c.gather_lines-gathering.result.lines.items c.gather_lines-gathering.ensures.turn in
     let last = c.trap_lines-gathered.ensures.count in
-    let room = c.in-Ok.ensures.replies in
+    let workspace = c.in-Ok.ensures.replies in
     omega arith
 
 pub returns : goal.returns
@@ -45,5 +45,5 @@ trap_lines-gathered-requires-clause-numbered g c κs within =
     let numbered = c.requires.numbered in
     omega arith
 
-pub gather_lines-gathering-requires-clause-room : goal.gather_lines-gathering-requires-clause-room
-gather_lines-gathering-requires-clause-room g c = grind (arith, common_steps)
+pub gather_lines-gathering-requires-clause-workspace : goal.gather_lines-gathering-requires-clause-workspace
+gather_lines-gathering-requires-clause-workspace g c = grind (arith, common_steps)

@@ -8,5 +8,5 @@ invariant-loop-number l = record {
   ascends : Ascends l.numbers.items;
   above : IsAbove l.number l.numbers.items;
   few : vec_len l.numbers ≤ l.number;
-  room : length l.pages ≤ vec_capacity l.numbers;
+  workspace : length l.pages ≤ vec_capacity l.numbers;
 }

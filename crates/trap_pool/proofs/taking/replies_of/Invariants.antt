@@ -8,5 +8,5 @@ abbrev pub invariant-loop-line : goal.invariant-loop-line
 invariant-loop-line l = record {
   made : l.replies.items ≡ l.yielded;
   left : l.fn.gathered.items ≡ l.yielded ++ into_iter_items l.line-iterator;
-  room : vec_len l.fn.gathered ≤ vec_capacity l.replies;
+  workspace : vec_len l.fn.gathered ≤ vec_capacity l.replies;
 }

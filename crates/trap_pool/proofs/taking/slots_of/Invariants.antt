@@ -7,5 +7,5 @@ abbrev pub invariant-loop-page : goal.invariant-loop-page
 invariant-loop-page g l = record {
   left : l.fn.pages.items ≡ l.yielded ++ into_iter_items l.page-iterator;
   count : vec_len l.slots ≡ length l.yielded;
-  room : vec_len l.fn.pages ≤ vec_capacity l.slots;
+  workspace : vec_len l.fn.pages ≤ vec_capacity l.slots;
 }

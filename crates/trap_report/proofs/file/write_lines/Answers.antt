@@ -2,7 +2,7 @@
 use Rattle.std.proofs.Common.{◌++◌, codes, length}
 use Rattle.outside.proofs.Steps.{writes_as, writes_stopped, writes_then}
 use Rattle.page_model.specs.Page.{height, plates, width}
-use Rattle.refusals.specs.Lines.{line}
+use Rattle.common_errors.specs.Lines.{line}
 use Rattle.trap_report.specs.Report.{edges_line, plate_lines, report_of, sided_page_line, title_line, zone_lines}
 use Rattle.trap_report.proofs.AllLines.{report_parts}
 use Rattle.trap_report.proofs.file.write_lines.Goals as goal

@@ -1,6 +1,6 @@
 -- What `write_plates` has to show.
 use Rattle.std.proofs.Common.{◌≡◌, ◌∙◌, ap, arith, slice_index, ℕ, List, Ok, Err, subst}
-use Rattle.outside.specs.declared.tray.Failed.{Failed}
+use Rattle.outside.specs.declared.tray.DeviceError.{DeviceError}
 use Rattle.outside.specs.Writing.{WritesOn}
 use Rattle.page_model.specs.Page.{plates}
 use Rattle.trap_report.specs.Report.{plate_lines}
@@ -29,4 +29,4 @@ loop-c-preserved g c =
 pub returns : goal.returns
 returns g c =
     let end : c.loop-c.c ≡ plates c.args.sheet.now = omega arith in
-    subst (λ (n : ℕ). WritesOn {T = Unit {0}} {E = Failed} (plate_lines c.args.sheet.now c.args.counts.now n) (g.R.Rack.state c.args.rack.now) (g.R.Rack.state c.loop-c.rack) (Ok tt)) end c.loop-c.invariant.wrote
+    subst (λ (n : ℕ). WritesOn {T = Unit {0}} {E = DeviceError} (plate_lines c.args.sheet.now c.args.counts.now n) (g.R.Rack.state c.args.rack.now) (g.R.Rack.state c.loop-c.rack) (Ok tt)) end c.loop-c.invariant.wrote

@@ -2,7 +2,7 @@
 use Rattle.std.proofs.Common.{◌≡◌, ◌++◌, ◌∙◌, codes}
 use Rattle.outside.proofs.Steps.{writes_as, writes_stopped, writes_then}
 use Rattle.page_model.specs.Page.{plates}
-use Rattle.refusals.specs.Lines.{line}
+use Rattle.common_errors.specs.Lines.{line}
 use Rattle.trap_report.specs.Report.{edges_line, plate_lines}
 use Rattle.trap_report.proofs.file.write_tail.Goals as goal
 

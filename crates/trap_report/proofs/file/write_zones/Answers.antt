@@ -1,6 +1,6 @@
 -- What `write_zones` has to show.
 use Rattle.std.proofs.Common.{◌≡◌, ◌∙◌, ap, arith, slice_index, ℕ, List, Ok, Err, subst}
-use Rattle.outside.specs.declared.tray.Failed.{Failed}
+use Rattle.outside.specs.declared.tray.DeviceError.{DeviceError}
 use Rattle.outside.specs.Writing.{WritesOn}
 use Rattle.trap_report.specs.Report.{zone_lines}
 use Rattle.trap_report.proofs.AllLines.{zone_next, zones_stopped}
@@ -25,4 +25,4 @@ loop-zone-preserved g c =
 pub returns : goal.returns
 returns g c =
     let end : c.loop-zone.zone ≡ c.args.zones = omega arith in
-    subst (λ (n : ℕ). WritesOn {T = Unit {0}} {E = Failed} (zone_lines c.args.counts.now n) (g.R.Rack.state c.args.rack.now) (g.R.Rack.state c.loop-zone.rack) (Ok tt)) end c.loop-zone.invariant.wrote
+    subst (λ (n : ℕ). WritesOn {T = Unit {0}} {E = DeviceError} (zone_lines c.args.counts.now n) (g.R.Rack.state c.args.rack.now) (g.R.Rack.state c.loop-zone.rack) (Ok tt)) end c.loop-zone.invariant.wrote

@@ -7,16 +7,16 @@ use Rattle.trap_set.proofs.holding.put.Goals as goal
 pub returns-in-Ok-flush : goal.returns-in-Ok-flush
 returns-in-Ok-flush g c =
     let kept = ap (λ h. h.items) c.in-Err.ensures.err in
-    puts_then c.in-Ok-flush.field-0 c.put_past.result [] c.args.piece.now c.args.held.now.items c.flush.new.held.items c.put_past.new.held.items
+    puts_then c.in-Ok-flush.field-0 c.put_past.result [] c.args.piece.now c.args.stored.now.items c.flush.new.stored.items c.put_past.new.stored.items
     (g.R.Rack.state c.args.rack.now) (g.R.Rack.state c.flush.new.rack) (g.R.Rack.state c.put_past.new.rack)
-    (puts_as _ [] [] c.try_extend_from_slice.new.self.items c.args.held.now.items c.flush.new.held.items _ _ refl kept c.in-Ok-flush.ensures.puts) c.put_past.ensures
+    (puts_as _ [] [] c.try_extend_from_slice.new.self.items c.args.stored.now.items c.flush.new.stored.items _ _ refl kept c.in-Ok-flush.ensures.puts) c.put_past.ensures
 
 pub returns-in-Err-flush : goal.returns-in-Err-flush
 returns-in-Err-flush g c =
     let kept = ap (λ h. h.items) c.in-Err.ensures.err in
-    puts_failed c.in-Err-flush.field-0 _ [] c.args.piece.now c.args.held.now.items c.flush.new.held.items c.flush.new.held.items
+    puts_failed c.in-Err-flush.field-0 _ [] c.args.piece.now c.args.stored.now.items c.flush.new.stored.items c.flush.new.stored.items
     (g.R.Rack.state c.args.rack.now) (g.R.Rack.state c.flush.new.rack)
-    (puts_as _ [] [] c.try_extend_from_slice.new.self.items c.args.held.now.items c.flush.new.held.items _ _ refl kept c.in-Err-flush.ensures.puts)
+    (puts_as _ [] [] c.try_extend_from_slice.new.self.items c.args.stored.now.items c.flush.new.stored.items _ _ refl kept c.in-Err-flush.ensures.puts)
 
 pub returns-in-Ok : goal.returns-in-Ok
 returns-in-Ok g c = grind (arith, common_steps)

@@ -7,8 +7,8 @@ use Rattle.trap_set.proofs.HoldingLemmas.{puts_then, puts_failed}
 use Rattle.trap_set.proofs.set.put_lines.Goals as goal
 
 pub returns-in-Ok : goal.returns-in-Ok
-returns-in-Ok g c = puts_then c.in-Ok.field-0 c.put_rows.result (title_line ++ page_line (head_of c.args.old.now)) (rows_text c.args.old.now c.args.new.now (tall c.args.old.now)) c.args.held.now.items c.put_head.new.held.items c.put_rows.new.held.items
+returns-in-Ok g c = puts_then c.in-Ok.field-0 c.put_rows.result (title_line ++ page_line (head_of c.args.old.now)) (rows_text c.args.old.now c.args.new.now (tall c.args.old.now)) c.args.stored.now.items c.put_head.new.stored.items c.put_rows.new.stored.items
     (g.R.Rack.state c.args.rack.now) (g.R.Rack.state c.put_head.new.rack) (g.R.Rack.state c.put_rows.new.rack) c.in-Ok.ensures c.put_rows.ensures
 
 pub returns-in-Err : goal.returns-in-Err
-returns-in-Err g c = puts_failed c.in-Err.field-0 _ (title_line ++ page_line (head_of c.args.old.now)) (rows_text c.args.old.now c.args.new.now (tall c.args.old.now)) c.args.held.now.items c.put_head.new.held.items c.put_head.new.held.items (g.R.Rack.state c.args.rack.now) (g.R.Rack.state c.put_head.new.rack) c.in-Err.ensures
+returns-in-Err g c = puts_failed c.in-Err.field-0 _ (title_line ++ page_line (head_of c.args.old.now)) (rows_text c.args.old.now c.args.new.now (tall c.args.old.now)) c.args.stored.now.items c.put_head.new.stored.items c.put_head.new.stored.items (g.R.Rack.state c.args.rack.now) (g.R.Rack.state c.put_head.new.rack) c.in-Err.ensures

@@ -8,8 +8,8 @@ use Rattle.trap_set.proofs.TextLemmas.{set_is}
 use Rattle.trap_set.proofs.set.put_set.Goals as goal
 
 pub returns-in-Ok : goal.returns-in-Ok
-returns-in-Ok g c = puts_as c.put.result (((title_line ++ page_line (head_of c.args.old.now)) ++ rows_text c.args.old.now c.args.new.now (tall c.args.old.now)) ++ end_line) (set_text c.args.old.now c.args.new.now) c.args.held.now.items c.args.held.now.items c.put.new.held.items (g.R.Rack.state c.args.rack.now) (g.R.Rack.state c.put.new.rack) (set_is c.args.old.now c.args.new.now) refl (puts_then c.in-Ok.field-0 c.put.result ((title_line ++ page_line (head_of c.args.old.now)) ++ rows_text c.args.old.now c.args.new.now (tall c.args.old.now)) end_line c.args.held.now.items c.put_lines.new.held.items c.put.new.held.items
+returns-in-Ok g c = puts_as c.put.result (((title_line ++ page_line (head_of c.args.old.now)) ++ rows_text c.args.old.now c.args.new.now (tall c.args.old.now)) ++ end_line) (set_text c.args.old.now c.args.new.now) c.args.stored.now.items c.args.stored.now.items c.put.new.stored.items (g.R.Rack.state c.args.rack.now) (g.R.Rack.state c.put.new.rack) (set_is c.args.old.now c.args.new.now) refl (puts_then c.in-Ok.field-0 c.put.result ((title_line ++ page_line (head_of c.args.old.now)) ++ rows_text c.args.old.now c.args.new.now (tall c.args.old.now)) end_line c.args.stored.now.items c.put_lines.new.stored.items c.put.new.stored.items
     (g.R.Rack.state c.args.rack.now) (g.R.Rack.state c.put_lines.new.rack) (g.R.Rack.state c.put.new.rack) c.in-Ok.ensures c.put.ensures)
 
 pub returns-in-Err : goal.returns-in-Err
-returns-in-Err g c = puts_prefix c.in-Err.field-0 _ ((title_line ++ page_line (head_of c.args.old.now)) ++ rows_text c.args.old.now c.args.new.now (tall c.args.old.now)) end_line (set_text c.args.old.now c.args.new.now) c.args.held.now.items c.put_lines.new.held.items c.put_lines.new.held.items (g.R.Rack.state c.args.rack.now) (g.R.Rack.state c.put_lines.new.rack) (sym (set_is c.args.old.now c.args.new.now)) c.in-Err.ensures
+returns-in-Err g c = puts_prefix c.in-Err.field-0 _ ((title_line ++ page_line (head_of c.args.old.now)) ++ rows_text c.args.old.now c.args.new.now (tall c.args.old.now)) end_line (set_text c.args.old.now c.args.new.now) c.args.stored.now.items c.put_lines.new.stored.items c.put_lines.new.stored.items (g.R.Rack.state c.args.rack.now) (g.R.Rack.state c.put_lines.new.rack) (sym (set_is c.args.old.now c.args.new.now)) c.in-Err.ensures

@@ -6,8 +6,8 @@ use Rattle.std.proofs.lemmas.List.{append-nil}
 use Rattle.trap_set.proofs.set.put_whole.Goals as goal
 
 pub returns-in-Ok-clause-puts : goal.returns-in-Ok-clause-puts
-returns-in-Ok-clause-puts g c = puts_as c.flush.result ((set_text c.args.old.now c.args.new.now) ++ []) (set_text c.args.old.now c.args.new.now) c.args.held.now.items c.args.held.now.items c.flush.new.held.items (g.R.Rack.state c.args.rack.now) (g.R.Rack.state c.flush.new.rack) (append-nil (set_text c.args.old.now c.args.new.now)) refl (puts_then c.in-Ok.field-0 c.flush.result (set_text c.args.old.now c.args.new.now) [] c.args.held.now.items c.put_set.new.held.items c.flush.new.held.items
+returns-in-Ok-clause-puts g c = puts_as c.flush.result ((set_text c.args.old.now c.args.new.now) ++ []) (set_text c.args.old.now c.args.new.now) c.args.stored.now.items c.args.stored.now.items c.flush.new.stored.items (g.R.Rack.state c.args.rack.now) (g.R.Rack.state c.flush.new.rack) (append-nil (set_text c.args.old.now c.args.new.now)) refl (puts_then c.in-Ok.field-0 c.flush.result (set_text c.args.old.now c.args.new.now) [] c.args.stored.now.items c.put_set.new.stored.items c.flush.new.stored.items
     (g.R.Rack.state c.args.rack.now) (g.R.Rack.state c.put_set.new.rack) (g.R.Rack.state c.flush.new.rack) c.in-Ok.ensures c.flush.ensures.puts)
 
 pub returns-in-Err-clause-puts : goal.returns-in-Err-clause-puts
-returns-in-Err-clause-puts g c = puts_prefix c.in-Err.field-0 _ (set_text c.args.old.now c.args.new.now) [] (set_text c.args.old.now c.args.new.now) c.args.held.now.items c.put_set.new.held.items c.put_set.new.held.items (g.R.Rack.state c.args.rack.now) (g.R.Rack.state c.put_set.new.rack) (sym (append-nil (set_text c.args.old.now c.args.new.now))) c.in-Err.ensures
+returns-in-Err-clause-puts g c = puts_prefix c.in-Err.field-0 _ (set_text c.args.old.now c.args.new.now) [] (set_text c.args.old.now c.args.new.now) c.args.stored.now.items c.put_set.new.stored.items c.put_set.new.stored.items (g.R.Rack.state c.args.rack.now) (g.R.Rack.state c.put_set.new.rack) (sym (append-nil (set_text c.args.old.now c.args.new.now))) c.in-Err.ensures

@@ -13,13 +13,13 @@ use Rattle.trap_set.proofs.writing.put_head.Goals as goal
 pub returns-in-Ok : goal.returns-in-Ok
 returns-in-Ok g c =
     let first : c.index-as_slice-0.result ≡ plane_at c.args.planes.now 0 = c.index-as_slice-0.is ∙ ap (λ (ps : List Plane). get_or ps 0 c.index-as_slice-0.result) c.as_slice.ensures ∙ get_or_default c.args.planes.now 0 c.index-as_slice-0.result no_plane c.requires.shape.some in
-    puts_as c.put_plates.result (((title_line ++ codes "page") ++ flat_map number (c.index-as_slice-0.result.width ∷ c.index-as_slice-0.result.height ∷ c.index-as_slice-0.result.maxval ∷ [])) ++ ((codes " plates" ++ number (length c.args.planes.now)) ++ 10 ∷ [])) (title_line ++ page_line (head_of c.args.planes.now)) c.args.held.now.items c.args.held.now.items c.put_plates.new.held.items (g.R.Rack.state c.args.rack.now) (g.R.Rack.state c.put_plates.new.rack) (ap (λ (p : Plane). ((title_line ++ codes "page") ++ flat_map number (p.width ∷ p.height ∷ p.maxval ∷ [])) ++ ((codes " plates" ++ number (length c.args.planes.now)) ++ 10 ∷ [])) first ∙ head_is (head_of c.args.planes.now)) refl
-    (puts_then c.in-Ok.field-0 c.put_plates.result ((title_line ++ codes "page") ++ flat_map number (c.index-as_slice-0.result.width ∷ c.index-as_slice-0.result.height ∷ c.index-as_slice-0.result.maxval ∷ [])) ((codes " plates" ++ number (length c.args.planes.now)) ++ 10 ∷ []) c.args.held.now.items c.put_sides.new.held.items c.put_plates.new.held.items
+    puts_as c.put_plates.result (((title_line ++ codes "page") ++ flat_map number (c.index-as_slice-0.result.width ∷ c.index-as_slice-0.result.height ∷ c.index-as_slice-0.result.maxval ∷ [])) ++ ((codes " plates" ++ number (length c.args.planes.now)) ++ 10 ∷ [])) (title_line ++ page_line (head_of c.args.planes.now)) c.args.stored.now.items c.args.stored.now.items c.put_plates.new.stored.items (g.R.Rack.state c.args.rack.now) (g.R.Rack.state c.put_plates.new.rack) (ap (λ (p : Plane). ((title_line ++ codes "page") ++ flat_map number (p.width ∷ p.height ∷ p.maxval ∷ [])) ++ ((codes " plates" ++ number (length c.args.planes.now)) ++ 10 ∷ [])) first ∙ head_is (head_of c.args.planes.now)) refl
+    (puts_then c.in-Ok.field-0 c.put_plates.result ((title_line ++ codes "page") ++ flat_map number (c.index-as_slice-0.result.width ∷ c.index-as_slice-0.result.height ∷ c.index-as_slice-0.result.maxval ∷ [])) ((codes " plates" ++ number (length c.args.planes.now)) ++ 10 ∷ []) c.args.stored.now.items c.put_sides.new.stored.items c.put_plates.new.stored.items
     (g.R.Rack.state c.args.rack.now) (g.R.Rack.state c.put_sides.new.rack) (g.R.Rack.state c.put_plates.new.rack) c.in-Ok.ensures
-    (puts_as c.put_plates.result _ ((codes " plates" ++ number (length c.args.planes.now)) ++ 10 ∷ []) c.put_sides.new.held.items c.put_sides.new.held.items c.put_plates.new.held.items (g.R.Rack.state c.put_sides.new.rack) (g.R.Rack.state c.put_plates.new.rack) (ap (λ (n : ℕ). (codes " plates" ++ number n) ++ 10 ∷ []) c.len-plates.ensures) refl c.put_plates.ensures))
+    (puts_as c.put_plates.result _ ((codes " plates" ++ number (length c.args.planes.now)) ++ 10 ∷ []) c.put_sides.new.stored.items c.put_sides.new.stored.items c.put_plates.new.stored.items (g.R.Rack.state c.put_sides.new.rack) (g.R.Rack.state c.put_plates.new.rack) (ap (λ (n : ℕ). (codes " plates" ++ number n) ++ 10 ∷ []) c.len-plates.ensures) refl c.put_plates.ensures))
 
 pub returns-in-Err : goal.returns-in-Err
 returns-in-Err g c =
     let first : c.index-as_slice-0.result ≡ plane_at c.args.planes.now 0 = c.index-as_slice-0.is ∙ ap (λ (ps : List Plane). get_or ps 0 c.index-as_slice-0.result) c.as_slice.ensures ∙ get_or_default c.args.planes.now 0 c.index-as_slice-0.result no_plane c.requires.shape.some in
-    puts_prefix c.in-Err.field-0 _ ((title_line ++ codes "page") ++ flat_map number (c.index-as_slice-0.result.width ∷ c.index-as_slice-0.result.height ∷ c.index-as_slice-0.result.maxval ∷ [])) ((codes " plates" ++ number (length c.args.planes.now)) ++ 10 ∷ []) (title_line ++ page_line (head_of c.args.planes.now)) c.args.held.now.items c.put_sides.new.held.items c.put_sides.new.held.items
+    puts_prefix c.in-Err.field-0 _ ((title_line ++ codes "page") ++ flat_map number (c.index-as_slice-0.result.width ∷ c.index-as_slice-0.result.height ∷ c.index-as_slice-0.result.maxval ∷ [])) ((codes " plates" ++ number (length c.args.planes.now)) ++ 10 ∷ []) (title_line ++ page_line (head_of c.args.planes.now)) c.args.stored.now.items c.put_sides.new.stored.items c.put_sides.new.stored.items
     (g.R.Rack.state c.args.rack.now) (g.R.Rack.state c.put_sides.new.rack) (sym (ap (λ (p : Plane). ((title_line ++ codes "page") ++ flat_map number (p.width ∷ p.height ∷ p.maxval ∷ [])) ++ ((codes " plates" ++ number (length c.args.planes.now)) ++ 10 ∷ [])) first ∙ head_is (head_of c.args.planes.now))) c.in-Err.ensures

@@ -8,9 +8,9 @@ use Rattle.trap_set.proofs.HoldingLemmas.{puts_then, puts_failed}
 use Rattle.trap_set.proofs.writing.put_last_tints.Goals as goal
 
 pub returns-in-Ok : goal.returns-in-Ok
-returns-in-Ok g c = puts_then c.in-Ok.field-0 c.put.result (flat_map number (list_below (λ (k : ℕ). tint_at c.args.planes.now k c.args.x c.args.y) (length c.args.planes.now))) (10 ∷ []) c.args.held.now.items c.put_tints.new.held.items c.put.new.held.items
+returns-in-Ok g c = puts_then c.in-Ok.field-0 c.put.result (flat_map number (list_below (λ (k : ℕ). tint_at c.args.planes.now k c.args.x c.args.y) (length c.args.planes.now))) (10 ∷ []) c.args.stored.now.items c.put_tints.new.stored.items c.put.new.stored.items
     (g.R.Rack.state c.args.rack.now) (g.R.Rack.state c.put_tints.new.rack) (g.R.Rack.state c.put.new.rack) c.in-Ok.ensures c.put.ensures
 
 pub returns-in-Err : goal.returns-in-Err
-returns-in-Err g c = puts_failed c.in-Err.field-0 _ (flat_map number (list_below (λ (k : ℕ). tint_at c.args.planes.now k c.args.x c.args.y) (length c.args.planes.now))) (10 ∷ []) c.args.held.now.items c.put_tints.new.held.items c.put_tints.new.held.items
+returns-in-Err g c = puts_failed c.in-Err.field-0 _ (flat_map number (list_below (λ (k : ℕ). tint_at c.args.planes.now k c.args.x c.args.y) (length c.args.planes.now))) (10 ∷ []) c.args.stored.now.items c.put_tints.new.stored.items c.put_tints.new.stored.items
     (g.R.Rack.state c.args.rack.now) (g.R.Rack.state c.put_tints.new.rack) c.in-Err.ensures

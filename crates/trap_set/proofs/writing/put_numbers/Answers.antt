@@ -12,9 +12,9 @@ returns-in-Err g c =
     let xs = c.args.numbers.now in
     let i = c.loop-n.n-index in
     let prefix = flat_map number (take i xs) in
-    puts_prefix c.in-Err.field-0 _ (prefix ++ number (get_or xs i 0)) (flat_map number (drop (i + 1) xs)) (flat_map number xs) c.args.held.now.items c.put_number.new.held.items c.put_number.new.held.items
+    puts_prefix c.in-Err.field-0 _ (prefix ++ number (get_or xs i 0)) (flat_map number (drop (i + 1) xs)) (flat_map number xs) c.args.stored.now.items c.put_number.new.stored.items c.put_number.new.stored.items
     (g.R.Rack.state c.args.rack.now) (g.R.Rack.state c.put_number.new.rack) (numbers_rest xs i c.loop-n-test.true)
-    (puts_then tt (Err c.in-Err.field-0) prefix (number (get_or xs i 0)) c.args.held.now.items c.loop-n.held.items c.put_number.new.held.items (g.R.Rack.state c.args.rack.now) (g.R.Rack.state c.loop-n.rack) (g.R.Rack.state c.put_number.new.rack) c.loop-n.invariant c.in-Err.ensures)
+    (puts_then tt (Err c.in-Err.field-0) prefix (number (get_or xs i 0)) c.args.stored.now.items c.loop-n.stored.items c.put_number.new.stored.items (g.R.Rack.state c.args.rack.now) (g.R.Rack.state c.loop-n.rack) (g.R.Rack.state c.put_number.new.rack) c.loop-n.invariant c.in-Err.ensures)
 
 pub loop-n-preserved : goal.loop-n-preserved
 loop-n-preserved g c = grind (arith, common_steps)

@@ -11,26 +11,26 @@ use Rattle.trap_set.proofs.writing.put_row.Goals as goal
 pub returns-in-Err : goal.returns-in-Err
 returns-in-Err g c =
     let more = row_after c.args.old.now c.args.new.now c.args.y c.loop-x.x (wide c.args.old.now) (omega arith) in
-    puts_prefix c.in-Err.field-0 _ ((row_text c.args.old.now c.args.new.now c.args.y c.loop-x.x) ++ (run_text c.args.old.now c.args.new.now c.args.y c.loop-x.x)) more.0 (row_text c.args.old.now c.args.new.now c.args.y (wide c.args.old.now)) c.args.held.now.items c.put_sample.new.held.items c.put_sample.new.held.items
+    puts_prefix c.in-Err.field-0 _ ((row_text c.args.old.now c.args.new.now c.args.y c.loop-x.x) ++ (run_text c.args.old.now c.args.new.now c.args.y c.loop-x.x)) more.0 (row_text c.args.old.now c.args.new.now c.args.y (wide c.args.old.now)) c.args.stored.now.items c.put_sample.new.stored.items c.put_sample.new.stored.items
     (g.R.Rack.state c.args.rack.now) (g.R.Rack.state c.put_sample.new.rack) more.1
-    (puts_then tt (Err c.in-Err.field-0) (row_text c.args.old.now c.args.new.now c.args.y c.loop-x.x) (run_text c.args.old.now c.args.new.now c.args.y c.loop-x.x) c.args.held.now.items c.loop-x.held.items c.put_sample.new.held.items (g.R.Rack.state c.args.rack.now) (g.R.Rack.state c.loop-x.rack) (g.R.Rack.state c.put_sample.new.rack) c.loop-x.invariant.1 c.in-Err.ensures)
+    (puts_then tt (Err c.in-Err.field-0) (row_text c.args.old.now c.args.new.now c.args.y c.loop-x.x) (run_text c.args.old.now c.args.new.now c.args.y c.loop-x.x) c.args.stored.now.items c.loop-x.stored.items c.put_sample.new.stored.items (g.R.Rack.state c.args.rack.now) (g.R.Rack.state c.loop-x.rack) (g.R.Rack.state c.put_sample.new.rack) c.loop-x.invariant.1 c.in-Err.ensures)
 
 pub loop-x-preserved : goal.loop-x-preserved
 loop-x-preserved g c = (
   omega arith,
-  puts_as (Ok tt) ((row_text c.args.old.now c.args.new.now c.args.y c.loop-x.x) ++ (run_text c.args.old.now c.args.new.now c.args.y c.loop-x.x)) (row_text c.args.old.now c.args.new.now c.args.y (c.loop-x.x + 1)) c.args.held.now.items c.args.held.now.items c.put_sample.new.held.items (g.R.Rack.state c.args.rack.now) (g.R.Rack.state c.put_sample.new.rack) (sym (row_next c.args.old.now c.args.new.now c.args.y c.loop-x.x)) refl
-      (puts_then tt (Ok tt) (row_text c.args.old.now c.args.new.now c.args.y c.loop-x.x) (run_text c.args.old.now c.args.new.now c.args.y c.loop-x.x) c.args.held.now.items c.loop-x.held.items c.put_sample.new.held.items (g.R.Rack.state c.args.rack.now) (g.R.Rack.state c.loop-x.rack) (g.R.Rack.state c.put_sample.new.rack) c.loop-x.invariant.1 c.in-Ok.ensures),
+  puts_as (Ok tt) ((row_text c.args.old.now c.args.new.now c.args.y c.loop-x.x) ++ (run_text c.args.old.now c.args.new.now c.args.y c.loop-x.x)) (row_text c.args.old.now c.args.new.now c.args.y (c.loop-x.x + 1)) c.args.stored.now.items c.args.stored.now.items c.put_sample.new.stored.items (g.R.Rack.state c.args.rack.now) (g.R.Rack.state c.put_sample.new.rack) (sym (row_next c.args.old.now c.args.new.now c.args.y c.loop-x.x)) refl
+      (puts_then tt (Ok tt) (row_text c.args.old.now c.args.new.now c.args.y c.loop-x.x) (run_text c.args.old.now c.args.new.now c.args.y c.loop-x.x) c.args.stored.now.items c.loop-x.stored.items c.put_sample.new.stored.items (g.R.Rack.state c.args.rack.now) (g.R.Rack.state c.loop-x.rack) (g.R.Rack.state c.put_sample.new.rack) c.loop-x.invariant.1 c.in-Ok.ensures),
 )
 
 pub loop-x-preserved-then-x-next : goal.loop-x-preserved-then-x-next
 loop-x-preserved-then-x-next g c = (
   omega (arith, c.skip_same-next.ensures.within),
-  puts_as (Ok tt) (row_text c.args.old.now c.args.new.now c.args.y c.loop-x.x) (row_text c.args.old.now c.args.new.now c.args.y c.skip_same-next.result) c.args.held.now.items c.args.held.now.items c.loop-x.held.items (g.R.Rack.state c.args.rack.now) (g.R.Rack.state c.loop-x.rack)
+  puts_as (Ok tt) (row_text c.args.old.now c.args.new.now c.args.y c.loop-x.x) (row_text c.args.old.now c.args.new.now c.args.y c.skip_same-next.result) c.args.stored.now.items c.args.stored.now.items c.loop-x.stored.items (g.R.Rack.state c.args.rack.now) (g.R.Rack.state c.loop-x.rack)
       (row_stays c.args.old.now c.args.new.now c.args.y c.loop-x.x c.skip_same-next.result (omega (arith, c.if-x-next.true)) c.skip_same-next.ensures.same) refl c.loop-x.invariant.1,
 )
 
 pub returns : goal.returns
 returns g c =
     let end : c.loop-x.x ≡ wide c.args.old.now = omega (arith, c.loop-x.invariant.0, c.requires.width) in
-    puts_as (Ok tt) (row_text c.args.old.now c.args.new.now c.args.y c.loop-x.x) (row_text c.args.old.now c.args.new.now c.args.y (wide c.args.old.now)) c.args.held.now.items c.args.held.now.items c.loop-x.held.items (g.R.Rack.state c.args.rack.now) (g.R.Rack.state c.loop-x.rack)
+    puts_as (Ok tt) (row_text c.args.old.now c.args.new.now c.args.y c.loop-x.x) (row_text c.args.old.now c.args.new.now c.args.y (wide c.args.old.now)) c.args.stored.now.items c.args.stored.now.items c.loop-x.stored.items (g.R.Rack.state c.args.rack.now) (g.R.Rack.state c.loop-x.rack)
     (ap (row_text c.args.old.now c.args.new.now c.args.y) end) refl c.loop-x.invariant.1

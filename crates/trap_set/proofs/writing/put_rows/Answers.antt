@@ -10,13 +10,13 @@ use Rattle.trap_set.proofs.writing.put_rows.Goals as goal
 pub returns-in-Err : goal.returns-in-Err
 returns-in-Err g c =
     let more = rows_after c.args.old.now c.args.new.now c.loop-y.y (tall c.args.old.now) (omega arith) in
-    puts_prefix c.in-Err.field-0 _ ((rows_text c.args.old.now c.args.new.now c.loop-y.y) ++ (row_text c.args.old.now c.args.new.now c.loop-y.y (wide c.args.old.now))) more.0 (rows_text c.args.old.now c.args.new.now (tall c.args.old.now)) c.args.held.now.items c.put_row.new.held.items c.put_row.new.held.items
+    puts_prefix c.in-Err.field-0 _ ((rows_text c.args.old.now c.args.new.now c.loop-y.y) ++ (row_text c.args.old.now c.args.new.now c.loop-y.y (wide c.args.old.now))) more.0 (rows_text c.args.old.now c.args.new.now (tall c.args.old.now)) c.args.stored.now.items c.put_row.new.stored.items c.put_row.new.stored.items
     (g.R.Rack.state c.args.rack.now) (g.R.Rack.state c.put_row.new.rack) more.1
-    (puts_then tt (Err c.in-Err.field-0) (rows_text c.args.old.now c.args.new.now c.loop-y.y) (row_text c.args.old.now c.args.new.now c.loop-y.y (wide c.args.old.now)) c.args.held.now.items c.loop-y.held.items c.put_row.new.held.items (g.R.Rack.state c.args.rack.now) (g.R.Rack.state c.loop-y.rack) (g.R.Rack.state c.put_row.new.rack) c.loop-y.invariant c.in-Err.ensures)
+    (puts_then tt (Err c.in-Err.field-0) (rows_text c.args.old.now c.args.new.now c.loop-y.y) (row_text c.args.old.now c.args.new.now c.loop-y.y (wide c.args.old.now)) c.args.stored.now.items c.loop-y.stored.items c.put_row.new.stored.items (g.R.Rack.state c.args.rack.now) (g.R.Rack.state c.loop-y.rack) (g.R.Rack.state c.put_row.new.rack) c.loop-y.invariant c.in-Err.ensures)
 
 pub loop-y-preserved : goal.loop-y-preserved
-loop-y-preserved g c = puts_as (Ok tt) ((rows_text c.args.old.now c.args.new.now c.loop-y.y) ++ (row_text c.args.old.now c.args.new.now c.loop-y.y (wide c.args.old.now))) (rows_text c.args.old.now c.args.new.now (c.loop-y.y + 1)) c.args.held.now.items c.args.held.now.items c.put_row.new.held.items (g.R.Rack.state c.args.rack.now) (g.R.Rack.state c.put_row.new.rack) (sym (rows_next c.args.old.now c.args.new.now c.loop-y.y)) refl
-    (puts_then tt (Ok tt) (rows_text c.args.old.now c.args.new.now c.loop-y.y) (row_text c.args.old.now c.args.new.now c.loop-y.y (wide c.args.old.now)) c.args.held.now.items c.loop-y.held.items c.put_row.new.held.items (g.R.Rack.state c.args.rack.now) (g.R.Rack.state c.loop-y.rack) (g.R.Rack.state c.put_row.new.rack) c.loop-y.invariant c.in-Ok.ensures)
+loop-y-preserved g c = puts_as (Ok tt) ((rows_text c.args.old.now c.args.new.now c.loop-y.y) ++ (row_text c.args.old.now c.args.new.now c.loop-y.y (wide c.args.old.now))) (rows_text c.args.old.now c.args.new.now (c.loop-y.y + 1)) c.args.stored.now.items c.args.stored.now.items c.put_row.new.stored.items (g.R.Rack.state c.args.rack.now) (g.R.Rack.state c.put_row.new.rack) (sym (rows_next c.args.old.now c.args.new.now c.loop-y.y)) refl
+    (puts_then tt (Ok tt) (rows_text c.args.old.now c.args.new.now c.loop-y.y) (row_text c.args.old.now c.args.new.now c.loop-y.y (wide c.args.old.now)) c.args.stored.now.items c.loop-y.stored.items c.put_row.new.stored.items (g.R.Rack.state c.args.rack.now) (g.R.Rack.state c.loop-y.rack) (g.R.Rack.state c.put_row.new.rack) c.loop-y.invariant c.in-Ok.ensures)
 
 pub returns : goal.returns
 returns g c = grind (arith, common_steps)

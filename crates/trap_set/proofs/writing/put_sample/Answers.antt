@@ -11,4 +11,4 @@ pub returns-then-begins_at : goal.returns-then-begins_at
 returns-then-begins_at g c =
     let run = run_at c.args.old.now c.args.new.now c.args.x c.args.y in
     let here : run_line run ≡ run_text c.args.old.now c.args.new.now c.args.y c.args.x = sym (ap (λ (b : Bool). if b then run_line run else []) (sym c.begins_at.ensures ∙ c.if-begins_at.true)) in
-    puts_as c.put_run.result (run_line run) (run_text c.args.old.now c.args.new.now c.args.y c.args.x) c.args.held.now.items c.args.held.now.items c.put_run.new.held.items (g.R.Rack.state c.args.rack.now) (g.R.Rack.state c.put_run.new.rack) here refl c.put_run.ensures
+    puts_as c.put_run.result (run_line run) (run_text c.args.old.now c.args.new.now c.args.y c.args.x) c.args.stored.now.items c.args.stored.now.items c.put_run.new.stored.items (g.R.Rack.state c.args.rack.now) (g.R.Rack.state c.put_run.new.rack) here refl c.put_run.ensures

@@ -16,10 +16,10 @@ returns-in-Err g c =
     let prefix = flat_map number (list_below f k) in
     let here : c.from.result ≡ f k = cc in
     let in_range : k < n = omega arith in
-    puts_prefix c.in-Err.field-0 _ (prefix ++ number (f k)) (flat_map number (list_below (λ (i : ℕ). f (k + 1 + i)) (n - (k + 1)))) (flat_map number (list_below f n)) c.args.held.now.items c.put_number.new.held.items c.put_number.new.held.items
+    puts_prefix c.in-Err.field-0 _ (prefix ++ number (f k)) (flat_map number (list_below (λ (i : ℕ). f (k + 1 + i)) (n - (k + 1)))) (flat_map number (list_below f n)) c.args.stored.now.items c.put_number.new.stored.items c.put_number.new.stored.items
     (g.R.Rack.state c.args.rack.now) (g.R.Rack.state c.put_number.new.rack) (tints_rest f k n in_range)
-    (puts_then tt (Err c.in-Err.field-0) prefix (number (f k)) c.args.held.now.items c.loop-c.held.items c.put_number.new.held.items (g.R.Rack.state c.args.rack.now) (g.R.Rack.state c.loop-c.rack) (g.R.Rack.state c.put_number.new.rack) c.loop-c.invariant
-    (puts_as (Err c.in-Err.field-0) (number c.from.result) (number (f k)) c.loop-c.held.items c.loop-c.held.items c.put_number.new.held.items (g.R.Rack.state c.loop-c.rack) (g.R.Rack.state c.put_number.new.rack) (ap number here) refl c.in-Err.ensures))
+    (puts_then tt (Err c.in-Err.field-0) prefix (number (f k)) c.args.stored.now.items c.loop-c.stored.items c.put_number.new.stored.items (g.R.Rack.state c.args.rack.now) (g.R.Rack.state c.loop-c.rack) (g.R.Rack.state c.put_number.new.rack) c.loop-c.invariant
+    (puts_as (Err c.in-Err.field-0) (number c.from.result) (number (f k)) c.loop-c.stored.items c.loop-c.stored.items c.put_number.new.stored.items (g.R.Rack.state c.loop-c.rack) (g.R.Rack.state c.put_number.new.rack) (ap number here) refl c.in-Err.ensures))
 
 pub loop-c-preserved : goal.loop-c-preserved
 loop-c-preserved g c =
@@ -27,6 +27,6 @@ loop-c-preserved g c =
     let k = c.loop-c.c in
     let prefix = flat_map number (list_below f k) in
     let here : c.from.result ≡ f k = cc in
-    puts_as (Ok tt) (prefix ++ number (f k)) (flat_map number (list_below f (k + 1))) c.args.held.now.items c.args.held.now.items c.put_number.new.held.items (g.R.Rack.state c.args.rack.now) (g.R.Rack.state c.put_number.new.rack) (sym (tints_next f k)) refl
-    (puts_then tt (Ok tt) prefix (number (f k)) c.args.held.now.items c.loop-c.held.items c.put_number.new.held.items (g.R.Rack.state c.args.rack.now) (g.R.Rack.state c.loop-c.rack) (g.R.Rack.state c.put_number.new.rack) c.loop-c.invariant
-    (puts_as (Ok tt) (number c.from.result) (number (f k)) c.loop-c.held.items c.loop-c.held.items c.put_number.new.held.items (g.R.Rack.state c.loop-c.rack) (g.R.Rack.state c.put_number.new.rack) (ap number here) refl c.in-Ok.ensures))
+    puts_as (Ok tt) (prefix ++ number (f k)) (flat_map number (list_below f (k + 1))) c.args.stored.now.items c.args.stored.now.items c.put_number.new.stored.items (g.R.Rack.state c.args.rack.now) (g.R.Rack.state c.put_number.new.rack) (sym (tints_next f k)) refl
+    (puts_then tt (Ok tt) prefix (number (f k)) c.args.stored.now.items c.loop-c.stored.items c.put_number.new.stored.items (g.R.Rack.state c.args.rack.now) (g.R.Rack.state c.loop-c.rack) (g.R.Rack.state c.put_number.new.rack) c.loop-c.invariant
+    (puts_as (Ok tt) (number c.from.result) (number (f k)) c.loop-c.stored.items c.loop-c.stored.items c.put_number.new.stored.items (g.R.Rack.state c.loop-c.rack) (g.R.Rack.state c.put_number.new.rack) (ap number here) refl c.in-Ok.ensures))

@@ -1,8 +1,8 @@
 -- put_page: draws the inks of a page back, and writes its plates and its report.
 use Rattle.std.proofs.Common.{refl}
-use Rattle.keep_words.specs.Held.{keep_in}
-use Rattle.refusals.specs.declared.refusal.Refusal.TheVariants.{Memory}
-use Rattle.trapkeep_cli.specs.declared.cause.KeepError.TheVariants.{Page, TooWide}
+use Rattle.keep_words.specs.Stored.{keep_in}
+use Rattle.common_errors.specs.declared.common.CommonError.TheVariants.{Memory}
+use Rattle.trapkeep_cli.specs.declared.reason.TrapkeepError.TheVariants.{Page, TooWide}
 use Rattle.trapkeep_cli.proofs.CarryLemmas.{not_put}
 use Rattle.trapkeep_cli.proofs.page.put_page.Goals as goal
 

@@ -1,7 +1,7 @@
 -- What `run` has to show.
 use Rattle.std.proofs.Common.{sym}
 use Rattle.trapkeep_cli.specs.Endings.Ends.{command}
-use Rattle.keep_words.specs.Held.{keep_in}
+use Rattle.keep_words.specs.Stored.{keep_in}
 use Rattle.trapkeep_cli.proofs.top.run.Goals as goal
 
 pub returns-in-Some : goal.returns-in-Some

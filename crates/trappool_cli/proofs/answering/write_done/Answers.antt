@@ -23,5 +23,5 @@ returns-in-Ok g c page planes text =
 
 pub returns-in-Err : goal.returns-in-Err
 returns-in-Err g c page planes text =
-    page_written c.args.line.now page (g.R.Rack.state c.args.rack.now) (g.R.Rack.state c.write_page.new.rack) (map string_bytes c.outs.result.now) c.args.planes c.report.result.now c.as_slice.result.now (Err c.in-Err.refusal)
+    page_written c.args.line.now page (g.R.Rack.state c.args.rack.now) (g.R.Rack.state c.write_page.new.rack) (map string_bytes c.outs.result.now) c.args.planes c.report.result.now c.as_slice.result.now (Err c.in-Err.error)
     c.outs.ensures planes c.report.ensures (c.as_slice.ensures ∙ text) c.in-Err.ensures

@@ -25,8 +25,8 @@ pub returns-in-Refused : goal.returns-in-Refused
 returns-in-Refused g c =
     let rack = g.R.Rack.state c.args.rack.now in
     let parts = c.into_parts-outcome.result in
-    subst (λ (r : ReplyParts). WritesReply c.args.line.now r rack rack (said.Refused c.in-Refused.refusal)) (sym (c.into_parts-outcome.ensures.parts ∙ ap (λ (o : Outcome). reply_parts parts.line parts.page.value o) c.in-Refused.is))
-    (refused_kept c.args.line.now parts.line parts.page.value c.in-Refused.refusal rack)
+    subst (λ (r : ReplyParts). WritesReply c.args.line.now r rack rack (said.Refused c.in-Refused.error)) (sym (c.into_parts-outcome.ensures.parts ∙ ap (λ (o : Outcome). reply_parts parts.line parts.page.value o) c.in-Refused.is))
+    (refused_kept c.args.line.now parts.line parts.page.value c.in-Refused.error rack)
 
 pub returns-in-TooLarge : goal.returns-in-TooLarge
 returns-in-TooLarge g c =

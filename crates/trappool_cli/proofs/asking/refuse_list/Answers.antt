@@ -1,6 +1,6 @@
 -- refuse_list: tells why nothing was written, and gives the status of it.
 use Rattle.std.proofs.Common.{ℕ, List, refl, sym, subst}
-use Rattle.refusals.specs.Telling.{TellsText}
+use Rattle.common_errors.specs.Telling.{TellsText}
 use Rattle.trappool_cli.specs.Endings.{Refuses, fault_line, fault_status}
 use Rattle.trappool_cli.specs.declared.lines.TrappoolError.{TrappoolError}
 use Rattle.trappool_cli.proofs.asking.refuse_list.Goals as goal

@@ -1,6 +1,6 @@
 -- refuse_words: words that mean nothing are refused by this program's own usage line.
 use Rattle.std.proofs.Common.{ℕ, List, refl, subst}
-use Rattle.refusals.specs.Telling.{TellsText}
+use Rattle.common_errors.specs.Telling.{TellsText}
 use Rattle.trappool_cli.proofs.asking.refuse_words.Goals as goal
 
 pub returns : goal.returns

@@ -5,7 +5,7 @@ use Rattle.traprun_cli.specs.Opened.{order_in}
 use Rattle.traprun_cli.specs.Reading.{ReadsImages}
 use Rattle.traprun_cli.specs.Words.{sources_of}
 use Rattle.traprun_cli.proofs.OpenLemmas.{as_many_inputs, as_many_names, as_many_sources}
-use Rattle.traprun_cli.proofs.GatherLemmas.{can_assemble, images_refused, page_made, page_refused, refusal_named}
+use Rattle.traprun_cli.proofs.GatherLemmas.{can_assemble, images_refused, page_made, page_refused, error_named}
 use Rattle.traprun_cli.proofs.gather.gather_images.Goals as goal
 
 pub read_images-requires : goal.read_images-requires
@@ -14,8 +14,8 @@ read_images-requires g c = let many = as_many_inputs c.args.opened.now c.require
 pub returns-in-Err : goal.returns-in-Err
 returns-in-Err g c =
     let named = ap (λ (fs : List (Bor (List ℕ))). map (λ (f : Bor (List ℕ)). f.now) fs) c.as_slice.ensures.value ∙ c.requires.opened.inputs in
-    images_refused (sources_of (order_in c.args.opened.now.order.now)) c.args.opened.now.job c.args.page (g.T.Tray.state c.args.tray.now) (g.T.Tray.state c.read_images.new.tray) c.args.job c.requires.given c.in-Err.stop
-    (subst (λ (l : List (List ℕ)). ReadsImages c.args.page l (g.T.Tray.state c.args.tray.now) (g.T.Tray.state c.read_images.new.tray) (Err c.in-Err.stop)) named c.in-Err.ensures)
+    images_refused (sources_of (order_in c.args.opened.now.order.now)) c.args.opened.now.job c.args.page (g.T.Tray.state c.args.tray.now) (g.T.Tray.state c.read_images.new.tray) c.args.job c.requires.given c.in-Err.error
+    (subst (λ (l : List (List ℕ)). ReadsImages c.args.page l (g.T.Tray.state c.args.tray.now) (g.T.Tray.state c.read_images.new.tray) (Err c.in-Err.error)) named c.in-Err.ensures)
 
 pub assemble_planes-requires-clause-planes : goal.assemble_planes-requires-clause-planes
 assemble_planes-requires-clause-planes g c =
@@ -37,6 +37,6 @@ returns-in-Ok-assemble_planes g c =
 pub returns-in-Err-assemble_planes : goal.returns-in-Err-assemble_planes
 returns-in-Err-assemble_planes g c =
     let named = ap (λ (fs : List (Bor (List ℕ))). map (λ (f : Bor (List ℕ)). f.now) fs) c.as_slice.ensures.value ∙ c.requires.opened.inputs in
-    page_refused (sources_of (order_in c.args.opened.now.order.now)) c.args.opened.now.job c.args.page (g.T.Tray.state c.args.tray.now) (g.T.Tray.state c.read_images.new.tray) c.args.job c.requires.given c.in-Ok.planes c.in-Err-assemble_planes.refusal c.stop_at.result c.stop_at.ensures
+    page_refused (sources_of (order_in c.args.opened.now.order.now)) c.args.opened.now.job c.args.page (g.T.Tray.state c.args.tray.now) (g.T.Tray.state c.read_images.new.tray) c.args.job c.requires.given c.in-Ok.planes c.in-Err-assemble_planes.common_error c.error_at.result c.error_at.ensures
     (subst (λ (l : List (List ℕ)). ReadsImages c.args.page l (g.T.Tray.state c.args.tray.now) (g.T.Tray.state c.read_images.new.tray) (Ok c.in-Ok.planes)) named c.in-Ok.ensures)
-    (refusal_named c.args.job c.in-Ok.planes c.in-Err-assemble_planes.refusal c.requires.opened.names c.in-Err-assemble_planes.ensures)
+    (error_named c.args.job c.in-Ok.planes c.in-Err-assemble_planes.common_error c.requires.opened.names c.in-Err-assemble_planes.ensures)

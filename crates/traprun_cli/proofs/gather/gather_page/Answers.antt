@@ -4,11 +4,11 @@ use Rattle.traprun_cli.specs.Gathering.{GathersPage}
 use Rattle.traprun_cli.specs.Opened.{order_in}
 use Rattle.traprun_cli.specs.Words.{sources_of}
 use Rattle.traprun_cli.proofs.GatherLemmas.{job_stopped}
-use Rattle.traprun_cli.specs.declared.stop.TraprunError.{TraprunError}
+use Rattle.traprun_cli.specs.declared.error.TraprunError.{TraprunError}
 use Rattle.traprun_cli.proofs.gather.gather_page.Goals as goal
 
 pub returns-in-Err : goal.returns-in-Err
 returns-in-Err g c =
     let source = sources_of (order_in c.args.opened.now.order.now) in
     let tray = g.T.Tray.state c.args.tray.now in
-    subst (λ (stop : TraprunError). GathersPage source c.args.opened.now.job c.args.page tray tray (Err stop)) (sym c.job_stop.ensures) (job_stopped source c.args.opened.now.job c.args.page tray tray c.in-Err.refusal c.in-Err.ensures.given)
+    subst (λ (error : TraprunError). GathersPage source c.args.opened.now.job c.args.page tray tray (Err error)) (sym c.job_error.ensures) (job_stopped source c.args.opened.now.job c.args.page tray tray c.in-Err.common_error c.in-Err.ensures.given)

@@ -6,7 +6,7 @@ use Rattle.traprun_cli.proofs.PutLemmas.{as_many_outputs, files_named, not_put, 
 use Rattle.traprun_cli.specs.Opened.{order_in}
 use Rattle.traprun_cli.specs.Words.{targets_of}
 use Rattle.traprun_cli.specs.Pages.{target_at}
-use Rattle.refusals.specs.declared.refusal.Refusal.{Refusal}
+use Rattle.common_errors.specs.declared.common.CommonError.{CommonError}
 use Rattle.traprun_cli.proofs.page.put_page.Goals as goal
 
 pub returns-in_default : goal.returns-in_default
@@ -23,7 +23,7 @@ returns-in-Ok g c =
     let before = g.R.Rack.state c.args.rack.now in
     let after = g.R.Rack.state c.put_out.new.rack in
     let put = files_named target c.args.number c.args.order.now.band c.args.page.now before after c.put_out.result _ _ (ap (λ fs. map (string_bytes {Z = Global}) fs) c.as_slice.ensures.value ∙ c.in-Ok-Ok.ensures) (c.as_str.ensures.value ∙ c.in-Ok-Ok.ensures') c.put_out.ensures in
-    page_put target c.args.number c.args.order.now.band c.args.page.now before after _ (subst (λ (r : Result Receipt Refusal). PutsOut c.args.order.now.band (target_at target c.args.number) c.args.page.now before after r) c.in-Ok.is put)
+    page_put target c.args.number c.args.order.now.band c.args.page.now before after _ (subst (λ (r : Result Receipt CommonError). PutsOut c.args.order.now.band (target_at target c.args.number) c.args.page.now before after r) c.in-Ok.is put)
 
 pub returns : goal.returns
 returns g c =
@@ -31,4 +31,4 @@ returns g c =
     let before = g.R.Rack.state c.args.rack.now in
     let after = g.R.Rack.state c.put_out.new.rack in
     let put = files_named target c.args.number c.args.order.now.band c.args.page.now before after c.put_out.result _ _ (ap (λ fs. map (string_bytes {Z = Global}) fs) c.as_slice.ensures.value ∙ c.in-Ok-Ok.ensures) (c.as_str.ensures.value ∙ c.in-Ok-Ok.ensures') c.put_out.ensures in
-    page_not_put target c.args.number c.args.order.now.band c.args.page.now before after c.in-Err.refusal c.stop_at.result c.stop_at.ensures (subst (λ (r : Result Receipt Refusal). PutsOut c.args.order.now.band (target_at target c.args.number) c.args.page.now before after r) c.in-Err.is put)
+    page_not_put target c.args.number c.args.order.now.band c.args.page.now before after c.in-Err.common_error c.error_at.result c.error_at.ensures (subst (λ (r : Result Receipt CommonError). PutsOut c.args.order.now.band (target_at target c.args.number) c.args.page.now before after r) c.in-Err.is put)

@@ -14,7 +14,7 @@ returns-in-Ok g c =
 pub returns-in-Err : goal.returns-in-Err
 returns-in-Err g c =
     let order = order_in c.args.opened.now.order.now in
-    not_gathered (sources_of order) (targets_of order) c.args.opened.now.job c.args.page (g.T.Tray.state c.args.tray.now) (g.T.Tray.state c.gather_page.new.tray) (g.R.Rack.state c.args.rack.now) c.in-Err.stop c.in-Err.ensures
+    not_gathered (sources_of order) (targets_of order) c.args.opened.now.job c.args.page (g.T.Tray.state c.args.tray.now) (g.T.Tray.state c.gather_page.new.tray) (g.R.Rack.state c.args.rack.now) c.in-Err.error c.in-Err.ensures
 
 pub put_page-requires-clause-count : goal.put_page-requires-clause-count
 put_page-requires-clause-count g c κs lives = c.in-Ok.ensures.count ∙ as_many_sources c.args.opened.now

@@ -23,7 +23,7 @@ returns-in-Err g c tray opened =
     let before = c.loop-page.invariant tray opened in
     let same : c.count-page-end.result ≡ opened.count = same_count c.args.opened.now.job opened.count c.count-page-end.result opened.has c.count-page-end.ensures in
     let within : c.loop-page.page < opened.count = omega arith in
-    pages_stopped (sources_of order) (targets_of order) c.args.opened.now.job c.loop-page.page tray (g.T.Tray.state c.loop-page.tray) (g.T.Tray.state c.trap_one.new.tray) (g.R.Rack.state c.args.rack.now) (g.R.Rack.state c.loop-page.rack) (g.R.Rack.state c.trap_one.new.rack) before.0 before.1 before.2 opened.known opened.count c.in-Err.stop opened.has within c.in-Err.ensures
+    pages_stopped (sources_of order) (targets_of order) c.args.opened.now.job c.loop-page.page tray (g.T.Tray.state c.loop-page.tray) (g.T.Tray.state c.trap_one.new.tray) (g.R.Rack.state c.args.rack.now) (g.R.Rack.state c.loop-page.rack) (g.R.Rack.state c.trap_one.new.rack) before.0 before.1 before.2 opened.known opened.count c.in-Err.error opened.has within c.in-Err.ensures
 
 pub returns : goal.returns
 returns g c tray opened =

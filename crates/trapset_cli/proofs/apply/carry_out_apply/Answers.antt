@@ -1,7 +1,7 @@
 -- carry_out_apply: carries out a command `apply`.
 use Rattle.std.proofs.lemmas.Grind.{common_steps}
 use Rattle.std.proofs.Common.{arith, List, ℕ, Bor, map, ap, ◌∙◌}
-use Rattle.trapset_cli.specs.Held.{apply_in}
+use Rattle.trapset_cli.specs.Stored.{apply_in}
 use Rattle.trapset_cli.proofs.ApplyLemmas.{patched_out, some_plates}
 use Rattle.trapset_cli.proofs.apply.carry_out_apply.Goals as goal
 

@@ -1,7 +1,7 @@
 -- patched_planes: reads the plates in the order of the words and then the set, and gives the planes
 -- with the set on them.
 use Rattle.std.proofs.Common.{List, ℕ, Bor, map, ap, ◌∙◌}
-use Rattle.trapset_cli.specs.Held.{apply_in}
+use Rattle.trapset_cli.specs.Stored.{apply_in}
 use Rattle.trapset_cli.proofs.ApplyLemmas.{plates_patched, plates_unread, some_plates}
 use Rattle.trapset_cli.proofs.planes.patched_planes.Goals as goal
 
@@ -13,4 +13,4 @@ returns-in-Ok-read_plates g c =
 pub returns : goal.returns
 returns g c =
     let named = ap (λ (fs : List (Bor (List ℕ))). map (λ (f : Bor (List ℕ)). f.now) fs) c.as_slice.ensures.value ∙ c.in-Ok.ensures in
-    plates_unread (apply_in c.args.command.now) (g.T.Tray.state c.args.tray.now) (g.T.Tray.state c.read_plates.new.tray) (map (λ (f : Bor (List ℕ)). f.now) c.as_slice.result.now) c.in-Err.refusal named (some_plates _ _ c.requires.some) c.in-Err.ensures
+    plates_unread (apply_in c.args.command.now) (g.T.Tray.state c.args.tray.now) (g.T.Tray.state c.read_plates.new.tray) (map (λ (f : Bor (List ℕ)). f.now) c.as_slice.result.now) c.in-Err.error named (some_plates _ _ c.requires.some) c.in-Err.ensures

@@ -1,7 +1,7 @@
 -- What `run` has to show.
 use Rattle.std.proofs.Common.{sym}
 use Rattle.trapset_cli.specs.Endings.Ends.{command}
-use Rattle.trapset_cli.specs.Held.{command_in}
+use Rattle.trapset_cli.specs.Stored.{command_in}
 use Rattle.trapset_cli.proofs.top.run.Goals as goal
 
 pub returns-in-Some : goal.returns-in-Some

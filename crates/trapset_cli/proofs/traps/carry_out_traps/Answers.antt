@@ -1,5 +1,5 @@
 -- carry_out_traps: carries out a command `traps`.
-use Rattle.trapset_cli.specs.Held.{traps_in}
+use Rattle.trapset_cli.specs.Stored.{traps_in}
 use Rattle.trapset_cli.proofs.TrapsLemmas.{page_put}
 use Rattle.trapset_cli.proofs.traps.carry_out_traps.Goals as goal
 

@@ -1,6 +1,6 @@
 -- carry_on: judges the sheet, reads it once more, traps it and writes its files.
 use Rattle.std.proofs.Common.{ℕ, List, map, sym, ◌∙◌, subst}
-use Rattle.trapsheet_cli.specs.Held.{order_in}
+use Rattle.trapsheet_cli.specs.Stored.{order_in}
 use Rattle.trapsheet_cli.specs.Planned.{PutsPlanned}
 use Rattle.trapsheet_cli.specs.Files.{sources_of, targets_of}
 use Rattle.trapsheet_cli.proofs.CarryLemmas.{as_many_files, carries_on, not_judged, ready}
@@ -40,8 +40,8 @@ returns-in-Ok g c =
     let r = map g.R.Rack.state c.args.racks.now in
     carries_on c.sheet_is_reread.ensures c.no_change.ensures order c.args.budget.now a b r c.in-Ok.planned (ready (sources_of order) c.args.budget.now a b c.in-Ok.planned c.in-Ok.ensures)
     (map g.T.Tray.state c.put_planned.new.trays) (map g.R.Rack.state c.put_planned.new.racks) c.put_planned.result
-    (subst (λ (inputs : List (List ℕ)). PutsPlanned (targets_of order) inputs c.in-Ok.planned.bare b (map g.T.Tray.state c.put_planned.new.trays) r (map g.R.Rack.state c.put_planned.new.racks) c.put_planned.result) c.requires.inputs.named c.put_planned.ensures)
+    (subst (λ (inputs : List (List ℕ)). PutsPlanned (targets_of order) inputs c.in-Ok.planned.outline b (map g.T.Tray.state c.put_planned.new.trays) r (map g.R.Rack.state c.put_planned.new.racks) c.put_planned.result) c.requires.inputs.named c.put_planned.ensures)
 
 pub returns-in-Err : goal.returns-in-Err
 returns-in-Err g c =
-    not_judged (order_in c.args.order.now) c.args.budget.now (map g.T.Tray.state c.args.trays.now) (map g.T.Tray.state c.judge.new.trays) (map g.R.Rack.state c.args.racks.now) c.in-Err.stop c.in-Err.ensures
+    not_judged (order_in c.args.order.now) c.args.budget.now (map g.T.Tray.state c.args.trays.now) (map g.T.Tray.state c.judge.new.trays) (map g.R.Rack.state c.args.racks.now) c.in-Err.error c.in-Err.ensures

@@ -5,7 +5,7 @@ use Rattle.std.proofs.lemmas.List.{length-map}
 use Rattle.page_model.specs.declared.parts.Plane.{Plane}
 use Rattle.page_model.specs.Limits.{most_maxval}
 use Rattle.plain_words.specs.Parts.{PlateNames}
-use Rattle.trapsheet_cli.specs.Held.{order_in}
+use Rattle.trapsheet_cli.specs.Stored.{order_in}
 use Rattle.sheet_files.specs.Racks.{WritesSheet, targets}
 use Rattle.trapsheet_cli.specs.Files.{targets_of}
 use Rattle.trapsheet_cli.proofs.EndLemmas.{puts_out}

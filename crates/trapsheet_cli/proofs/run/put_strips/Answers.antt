@@ -9,7 +9,7 @@ pub returns : goal.returns
 returns g c =
     let inputs = map (λ (f : Bor (List ℕ)). f.now) c.args.inputs.now in
     let named = ap (λ (fs : List (Bor (List ℕ))). map (λ (f : Bor (List ℕ)). f.now) fs) c.as_slice.ensures.value ∙ c.in-Ok.ensures in
-    subst (λ (outputs : List (List ℕ)). StreamsOut (course_of inputs outputs (map g.T.Tray.state c.args.trays.now) (map g.R.Rack.state c.args.racks.now)) c.args.order.now.report.now c.args.bare.now (map g.T.Tray.state c.stream.new.trays) (map g.R.Rack.state c.stream.new.racks) c.stream.result) named c.stream.ensures
+    subst (λ (outputs : List (List ℕ)). StreamsOut (course_of inputs outputs (map g.T.Tray.state c.args.trays.now) (map g.R.Rack.state c.args.racks.now)) c.args.order.now.report.now c.args.outline.now (map g.T.Tray.state c.stream.new.trays) (map g.R.Rack.state c.stream.new.racks) c.stream.result) named c.stream.ensures
 
 pub stream-requires-clause-racks : goal.stream-requires-clause-racks
 stream-requires-clause-racks g c = grind (arith, common_steps)

@@ -1,6 +1,6 @@
 -- What `tell_usage` has to show.
 use Rattle.std.proofs.Common.{ℕ, List, subst}
-use Rattle.refusals.specs.Telling.{TellsText}
+use Rattle.common_errors.specs.Telling.{TellsText}
 use Rattle.trapsheet_cli.proofs.top.tell_usage.Goals as goal
 
 pub returns : goal.returns

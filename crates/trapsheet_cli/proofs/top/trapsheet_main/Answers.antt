@@ -1,6 +1,6 @@
 -- trapsheet_main: traps a sheet of any size, and answers the status that the program ends with.
 use Rattle.std.proofs.Common.{map, string_bytes, Global}
-use Rattle.sheet_files.specs.Inputs.{held_by}
+use Rattle.sheet_files.specs.Inputs.{stored_by}
 use Rattle.trapsheet_cli.specs.Files.{sources_of}
 use Rattle.trapsheet_cli.proofs.ClauseLemmas.{completeness, fault_line, leaves_files, read_fault, refused_input, reopened, success, usage, write_fault}
 use Rattle.trapsheet_cli.proofs.LocalityLemmas.{changes_near_edges}
@@ -34,4 +34,4 @@ pub returns-clause-completeness : goal.returns-clause-completeness
 returns-clause-completeness g c = completeness (map (string_bytes {Z = Global}) c.args.words.now) (map g.T.Tray.state c.args.trays.now) (map g.T.Tray.state c.trapsheet_within.new.trays) (map g.R.Rack.state c.args.racks.now) (map g.R.Rack.state c.trapsheet_within.new.racks) c.trapsheet_within.result c.one_sheet_verdict.ensures c.trapsheet_within.ensures
 
 pub returns-clause-locality : goal.returns-clause-locality
-returns-clause-locality g c order job read sheet means tells inputs is = changes_near_edges (held_by (map g.T.Tray.state c.args.trays.now) (sources_of order)) (sources_of order).names job read sheet inputs is
+returns-clause-locality g c order job read sheet means tells inputs is = changes_near_edges (stored_by (map g.T.Tray.state c.args.trays.now) (sources_of order)) (sources_of order).names job read sheet inputs is

@@ -11,7 +11,7 @@ join_seat-requires c = let key = c.self.inside.table.shared.key in (
   ap (λ z. z.table) c.two.view_is ∙ (c.requires.two.table ∙ sym (ap (λ z. z.table) c.self.view_is)),
   c.two.invariant.0,
   omega (arith, c.self.invariant.wide, c.self.invariant.fit.made.bands.some_bands),
-  joins key c.self.invariant.fit _ _ _ _ (ap (λ z. z.view.held) c.one.view_is ∙ c.requires.one_idle) (ap (λ z. z.view.held) c.two.view_is ∙ c.requires.two_idle),
+  joins key c.self.invariant.fit _ _ _ _ (ap (λ z. z.view.stored) c.one.view_is ∙ c.requires.one_idle) (ap (λ z. z.view.stored) c.two.view_is ∙ c.requires.two_idle),
 )
 
 pub invariant_of-one : goal.invariant_of-one

@@ -11,7 +11,7 @@ pub compare_exchange-found-requires : goal.compare_exchange-found-requires
 compare_exchange-found-requires c =
     let key = c.self.inside.table.shared.key in
     let within : c.args.piece < pieces_of key.layout.bands = rw (ap (λ z. z.table_key) c.self.view_is) c.requires.piece in
-    let idle : c.pass.inside.seat.me.0.held ≡ None = ap (λ z. z.view.held) c.pass.view_is ∙ c.requires.idle in
+    let idle : c.pass.inside.seat.me.0.stored ≡ None = ap (λ z. z.view.stored) c.pass.view_is ∙ c.requires.idle in
     let known : (n : ℕ) → is_need key.layout.bands c.args.piece n ≡ true → Knows c.pass.inside.seat.me.0 n =
     rw (ap (λ z. z.table_key) c.self.view_is, ap (λ z. z.view) c.pass.view_is) c.requires.known in (
       ap (λ z. z.table) c.pass.view_is ∙ (c.requires.pass.table ∙ sym (ap (λ z. z.table) c.self.view_is)),

@@ -6,8 +6,8 @@ use Rattle.band_pieces.proofs.scratch.Scratch.fill_piece.Goals as goal
 pub fill-requires-clause-piece : goal.fill-requires-clause-piece
 fill-requires-clause-piece c = grind (arith, common_steps)
 
-pub fill-requires-clause-room : goal.fill-requires-clause-room
-fill-requires-clause-room c = grind (arith, common_steps)
+pub fill-requires-clause-workspace : goal.fill-requires-clause-workspace
+fill-requires-clause-workspace c = grind (arith, common_steps)
 
 pub invariant_of-self : goal.invariant_of-self
 invariant_of-self c = grind (arith, common_steps)

@@ -6,7 +6,7 @@ use Rattle.page_model.specs.Columns.{halo}
 use Rattle.band_core.specs.Layouts.{Layout}
 use Rattle.band_core.specs.Places.{per_row}
 use Rattle.band_core.proofs.Places.{rows_fit}
-use Rattle.band_pieces.specs.Room.{most_rows}
+use Rattle.band_pieces.specs.Workspace.{most_rows}
 use Rattle.band_pieces.proofs.scratch.Scratch.new.Goals as goal
 
 pub overflow_mul-band-2 : goal.overflow_mul-band-2

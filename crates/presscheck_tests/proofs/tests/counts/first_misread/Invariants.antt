@@ -2,5 +2,5 @@
 -- something else than its plane.
 use Rattle.presscheck_tests.proofs.tests.counts.first_misread.Given as goal
 
-abbrev pub ghosts-plate_is_told : goal.ghosts-plate_is_told
-ghosts-plate_is_told a = record { name = a.blank.name; parts = a.blank.parts }
+abbrev pub ghosts-plate_is_reported : goal.ghosts-plate_is_reported
+ghosts-plate_is_reported a = record { name = a.blank.name; parts = a.blank.parts }

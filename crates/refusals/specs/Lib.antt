@@ -1,4 +1,0 @@
-pub mod Lines
-pub mod Statuses
-pub mod Refusals
-pub mod Telling

@@ -1,7 +1,0 @@
--- strip_is_held: the rows that are held are those of the strip, of each sheet that begins with what
--- was read.
-use Rattle.sheet_stream.proofs.HoldLemmas.{holds_strip}
-use Rattle.sheet_stream.proofs.held_laws.strip_is_held.Goals as goal
-
-pub returns : goal.returns
-returns c = holds_strip

@@ -1,6 +1,0 @@
--- strip_is_made: a strip whose planes hold its rows is the sheet's strip.
-use Rattle.sheet_stream.proofs.HoldLemmas.{strip_made}
-use Rattle.sheet_stream.proofs.held_laws.strip_is_made.Goals as goal
-
-pub returns : goal.returns
-returns c = strip_made

@@ -1,7 +1,0 @@
--- How far the loops of `blank_planes` have come.
-use Rattle.std.proofs.Common.{◌≡◌, map, take}
-use Rattle.sheet_stream.specs.HeldStrips.{blank_plane}
-use Rattle.sheet_stream.proofs.held_strip.blank_planes.Given as goal
-
-abbrev pub invariant-loop-plane : goal.invariant-loop-plane
-invariant-loop-plane l = l.blank ≡ map (blank_plane l.rows) (take l.plane-index l.planes)

@@ -1,7 +1,0 @@
--- core_room: goals that the search finds slowly.
-use Rattle.std.proofs.lemmas.Grind.{common_steps}
-use Rattle.std.proofs.Common.{arith}
-use Rattle.sheet_stream.proofs.room.core_room.Goals as goal
-
-pub returns-clause-line : goal.returns-clause-line
-returns-clause-line c = grind (arith, common_steps)
