@@ -131,8 +131,8 @@ def lay_out(own: Sequence[Statement], info: PageInfo | None, trace: Trace | None
                     tuple(pair_zones(plates, inks, rule, settings)), tuple(places), tuple(over), settings.only_zones)
     if not settings.thin_zones:
         return finished(compose(own, wanted), None, origins)
-    skip = [pixels_of(place, size, plates) for place in pictures_alone(places, over)]
-    lines, parts = strokes_of(plates, inks, rule, skip, find)
+    lines, parts = strokes_of(plates, inks, rule, [pixels_of(place, size, plates) for place in
+                                                   pictures_alone(places, over)], find)
     boxes = boxes_by_width(lines, stroke_rule(rule), plates.resolution)
     thin = {width: [points_of(one, plates) for one in some] for width, some in boxes.items()}
     composed = compose(own, replace(wanted, thin=thin))
