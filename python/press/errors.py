@@ -5,7 +5,7 @@ import enum
 # Made of docs/STATUSES.md by tools/pages.
 STATUSES = """Status:
   0  done
-  1  some page failed, or the trapped PDF that was asked for was not written, and the other pages are complete (press/all, press/farm); two versions differ (press/compare)
+  1  a page failed, or the trapped PDF was not written (press/all, press/farm); two versions differ (press/compare)
   2  usage error: an unknown option, a missing argument or one too many
   3  a tool or a program is not installed
   4  a file cannot be read, or was replaced while it was read

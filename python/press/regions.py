@@ -2,6 +2,7 @@
 """Rectangles and shapes on a page, in points from the lower left corner of the page as it is drawn."""
 from __future__ import annotations
 
+import functools
 from collections.abc import Sequence
 
 from .images import joined
@@ -77,19 +78,27 @@ def fewer(rects: Sequence[Rect], most: int, gap: float = 0.5) -> list[Rect]:
     return out
 
 
+def in_lines(across: int, along: int, gap: float, rect: Rect) -> tuple[int, float]:
+    """By what rectangles are sorted so that near ones of a row or a column follow one another."""
+    return round(rect[across] / max(gap, 1)), rect[along]
+
+
+def joined_along(rects: Sequence[Rect], across: int, along: int, gap: float) -> list[Rect]:
+    """Rectangles of which neighbours in a row or a column are one, if they are near and share half of their sides."""
+    found: list[Rect] = []
+    for rect in rects:
+        if found and rect[along] - found[-1][along + 2] <= gap and shares(found[-1], rect, across) > 0.5:
+            found[-1] = around([found[-1][:2], found[-1][2:], rect[:2], rect[2:]])
+        else:
+            found.append(rect)
+    return found
+
+
 def taken_together(rects: Sequence[Rect], gap: float) -> list[Rect]:
     """Rectangles of about the same height in a row are one, and then those of about the same width in a column."""
     out = list(rects)
     for across, along in ((1, 0), (0, 1)):
-        out.sort(key=lambda one: (round(one[across] / max(gap, 1)), one[along]))
-        found: list[Rect] = []
-        for rect in out:
-            last = found[-1] if found else None
-            if last and rect[along] - last[along + 2] <= gap and shares(last, rect, across) > 0.5:
-                found[-1] = around([last[:2], last[2:], rect[:2], rect[2:]])
-            else:
-                found.append(rect)
-        out = found
+        out = joined_along(sorted(out, key=functools.partial(in_lines, across, along, gap)), across, along, gap)
     return out
 
 

@@ -61,12 +61,12 @@ class Tallies:
 
     def chosen(self, which: Numbers) -> Tallies:
         """Some of the columns."""
-        return Tallies(**{name: getattr(self, name)[..., which] for name in self.__dataclass_fields__})
+        return Tallies(**{one.name: getattr(self, one.name)[..., which] for one in fields(self)})
 
     def joined(self, other: Tallies) -> Tallies:
         """The columns of both."""
-        return Tallies(**{name: np.concatenate((getattr(self, name), getattr(other, name)), axis=-1)
-                          for name in self.__dataclass_fields__})
+        return Tallies(**{one.name: np.concatenate((getattr(self, one.name), getattr(other, one.name)), axis=-1)
+                          for one in fields(self)})
 
     def merged(self, of: Numbers, count: int) -> Tallies:
         """The tallies of components, where `of` is the component of each column. The first column gives the
@@ -98,7 +98,8 @@ class Columns:
 
     def joined(self, other: Self) -> Self:
         """Its rows, and those of another one."""
-        return type(self)(*(np.concatenate((getattr(self, one.name), getattr(other, one.name))) for one in fields(self)))
+        return type(self)(*(np.concatenate((getattr(self, one.name), getattr(other, one.name)))
+                            for one in fields(self)))
 
 
 @dataclass
@@ -134,7 +135,7 @@ class Covers(Columns):
 
     def packed(self, tile: int) -> Covers:
         """One box for each part and tile."""
-        if not len(self.part):
+        if self.part.size == 0:
             return self
         order = np.lexsort((self.left // tile, self.upper // tile, self.part))
         columns, rows, parts = (self.left // tile)[order], (self.upper // tile)[order], self.part[order]

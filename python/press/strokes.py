@@ -76,6 +76,7 @@ class Box:
     lower: int
 
     def grown(self, by: int) -> Box:
+        """The box with so many pixels more on each side."""
         return Box(self.left - by, self.upper - by, self.right + by, self.lower + by)
 
     def common(self, other: Box) -> Box:
@@ -84,6 +85,7 @@ class Box:
                    min(self.lower, other.lower))
 
     def meets(self, other: Box) -> bool:
+        """Whether both have a pixel in common."""
         return (self.left < other.right and other.left < self.right
                 and self.upper < other.lower and other.upper < self.lower)
 
@@ -282,6 +284,7 @@ class Finder:
         yield from self.as_parts(open_tallies, open_covers)
 
     def no_tallies(self) -> Tallies:
+        """The tallies of no part."""
         return Tallies.of_runs(Runs.none(), np.zeros((len(self.planes), 0), np.uint8))
 
     def rows(self, top: int, bottom: int) -> Rows:
@@ -351,6 +354,7 @@ class Finder:
             yield Part(box, covering, tuple(colour), area, outline, slides, lighter, attached)
 
     def is_sparse(self, tallies: Tallies) -> Mask:
+        """Which parts fill little of a box of many trap widths."""
         high, wide = tallies.lower - tallies.upper + 1, tallies.right - tallies.left + 1
         return np.asarray((tallies.area < SPARSE * high * wide) & (np.maximum(high, wide) > TILE_WIDTHS * self.pixels))
 
@@ -436,7 +440,7 @@ class Strip:
         """Which runs of the first row go on from runs of the row above the strip."""
         row = self.rows.first - 1
         first = np.flatnonzero(runs.row == self.rows.first + self.rows.upper)
-        if row < 0 or not len(first) or not len(above.row):
+        if row < 0 or first.size == 0 or above.row.size == 0:
             return np.zeros(0, np.int64), np.zeros(0, np.int64)
         part_above, part_below = (np.full(window.width, -1) for _ in range(2))
         for table, some in ((part_above, above), (part_below, runs.chosen(first))):
@@ -456,6 +460,7 @@ class Strip:
         return before.joined(Covers.of_runs(some, self.finder.tile)).packed(self.finder.tile)
 
     def finished(self, open_covers: Covers) -> Iterator[Part]:
+        """The parts that no later strip goes on."""
         done = np.flatnonzero(~self.open)
         covers = self.covers(open_covers)
         number = np.full(self.count, -1)
@@ -464,6 +469,7 @@ class Strip:
         yield from self.finder.as_parts(self.tallies.chosen(done), covers.chosen(covers.part >= 0))
 
     def still_open(self, open_covers: Covers) -> tuple[Runs, Tallies, Covers]:
+        """The last runs of the parts that the next strip may go on, with their tallies and covers."""
         left = np.flatnonzero(self.open)
         number = np.full(self.count, -1)
         number[left] = np.arange(len(left))
@@ -491,6 +497,7 @@ class WindowRuns:
         return np.searchsorted(self.starts, places, "right") - 1
 
     def runs(self, base: int) -> Runs:
+        """The runs by rows and columns; their numbers begin with `base`."""
         row, first = self.window.rows_and_columns(self.starts)
         _, last = self.window.rows_and_columns(self.stops)
         return Runs(row, first, last, base + np.arange(len(row)))
@@ -524,7 +531,6 @@ class WindowRuns:
     def count_edges(self, out: Tallies, edges: Words, calls: Words, step: tuple[int, int]) -> None:
         """The outline of each run: how much of it calls for a trap, lies beside black, slides, and has the run as
         its darker side. `step` is how far the pixel beyond an edge is in the masks, and in the samples."""
-        count = len(self.starts)
         first = bits.places(edges)
         at = self.window.samples(first)
         values = [[plane[place] for plane in self.window.rows.samples] for place in (at, at + step[1])]
@@ -537,9 +543,9 @@ class WindowRuns:
             run = self.of(place[inside])
             darker = called & ~slid & (densities[side] > densities[1 - side])
             beside_black = self.finder.is_black(values[1 - side])
-            out.outline += np.bincount(run, minlength=count)
+            out.outline += np.bincount(run, minlength=len(self.starts))
             for name, which in (("at_black", beside_black), ("calls", called), ("slides", slid), ("darker", darker)):
-                getattr(out, name)[:] += np.bincount(run[which[inside]], minlength=count)
+                getattr(out, name)[:] += np.bincount(run[which[inside]], minlength=len(self.starts))
 
 
 def find_strokes(planes: Sequence[Plane], inks: Sequence[Ink], rule: Rule, resolution: int,
