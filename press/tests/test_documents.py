@@ -35,6 +35,7 @@ LEFT_OUT = {
     r"make deb wheel": "takes minutes and debhelper; docs/LIBRARY.md's `make wheel` is run",
     r"press[/ ]desk .*": "goes on until it is stopped: test_desk_server.py runs it",
     r"bench/desk\.py": "measures for minutes, in a browser",
+    r"press/tests/compare_commits\.py 16ed03be .*": "compares for an hour, and needs the history",
     r"press/watch hot --dpi 1200|press/watch --config watch\.toml": "goes on until it is stopped: test_watch.py runs it",
     r"press/farm book\.pdf out --hosts .*": "needs two more machines",
     r"sbatch .*|eval \"\$\(press slurm-here .*|press slurm-here stop .*": "needs Slurm's daemons: test_farm.py runs them where they are",
