@@ -1,5 +1,5 @@
 // Laws over the definitions: each function does nothing, and its contract is the law. Those of runs, of words and of
-// boards that are not stuck are proved for any shape in `band_board`; here they are stated for the pieces of a page.
+// boards that are not stuck are proved for any shape by `board_laws`; here they are stated for the pieces of a page.
 
 ghost use Rattle.std.specs.Prelude.{◌≡◌, ◌<◌, ◌≤◌, ◌^◌, ℕ};
 ghost use Rattle.page_model.specs.declared.parts.PageParts.{PageParts};

@@ -107,7 +107,7 @@ page_fault_line (MaxvalDiffers plate) = line (codes "page: MaxvalDiffers plate "
 page_fault_line PageTooLarge = line (codes "page: TooManySamples")
 page_fault_line (ReachTooWide zone) = line (codes "page: ReachTooWide zone " ++ decimal zone)
 
--- the line that a error tells
+-- the line that an error tells
 abbrev pub line_of : CommonError → List ℕ
 line_of Usage = line
     (codes "usage: trap page [--workers N] [--band B] JOB REPORT NAME:IN:OUT ... | trap sample NUMBER WIDTH HEIGHT WORKERS")
@@ -121,11 +121,11 @@ line_of (Write None) = line (codes "write fault: report")
 line_of (Write (Some plate)) = line (codes "write fault: plate " ++ decimal plate)
 line_of Memory = line (codes "out of memory")
 
--- the line of a error at one page of many
+-- the line of an error at one page of many
 abbrev pub numbered_line : ℕ → CommonError → List ℕ
 numbered_line page error = codes "page " ++ decimal page ++ codes ": " ++ line_of error
 
--- the status that the program ends with after a error
+-- the status that the program ends with after an error
 abbrev pub status_of : CommonError → ℕ
 status_of Usage = usage
 status_of (Job fault) = job_refused

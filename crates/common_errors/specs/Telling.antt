@@ -30,7 +30,7 @@ pub record KeepsFiles (before after : RackState) : Type 0 where
   pub is_open : after.is_open ≡ before.is_open
   pub files : IsTrue before.tells → after.file ≡ before.file
 
--- A error tells its line and gives its status.
+-- An error tells its line and gives its status.
 pub record Refuses (error : CommonError) (before after : RackState) (status : ℕ) : Type 0 where
   pub files : KeepsFiles before after
   pub line : TellsText (line_of error) before after

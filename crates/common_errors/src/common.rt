@@ -27,7 +27,7 @@ pub enum CommonError {
     Memory,
 }
 
-/// The status that a program exits with after a error, one of `crate::statuses`.
+/// The status that a program exits with after an error, one of `crate::statuses`.
 pub fn status(error: &CommonError) -> u8
     ensures { result ≡ status_of error.now }
 {

@@ -9,7 +9,7 @@ use page_model::page::PageFault;
 use pgm_plates::plate::PlateFault;
 use ps_tokens::faults::JobFault;
 
-/// The line that is printed for a error, its LF included: fewer than 160 bytes. It allocates nothing. The form is
+/// The line that is printed for an error, its LF included: fewer than 160 bytes. It allocates nothing. The form is
 /// this project's own.
 pub fn fault_line(error: &CommonError) -> Line
     ensures { result ≡ line_of error.now }
@@ -17,7 +17,7 @@ pub fn fault_line(error: &CommonError) -> Line
     short_line(error)
 }
 
-/// The line of a error of one page of many: the page's number, counted from 0, and the error's line.
+/// The line of an error of one page of many: the page's number, counted from 0, and the error's line.
 pub fn numbered_line(page: u32, error: &CommonError) -> Line
     ensures { result ≡ numbered_line_of page error.now }
 {
@@ -29,7 +29,7 @@ pub fn numbered_line(page: u32, error: &CommonError) -> Line
     reported
 }
 
-// The line of a error, short enough for a page's number before it.
+// The line of an error, short enough for a page's number before it.
 fn short_line(error: &CommonError) -> Line
     ensures value { result ≡ line_of error.now }
     ensures short { length result ≤ 113 }

@@ -15,7 +15,7 @@ pub fn tell_line<R: Rack>(rack: &mut R, line: &Line)
     let _reported = rack.tell(line.as_slice());
 }
 
-/// Prints the line of a error and returns its status, whether or not the line could be printed.
+/// Prints the line of an error and returns its status, whether or not the line could be printed.
 pub fn refuse<R: Rack>(rack: &mut R, error: &CommonError) -> u8
     ensures { Refuses error.now (R.state rack.old) (R.state rack.new) result }
 {

@@ -124,7 +124,7 @@ unless-err (Some other) made first is = cc
 pub ends-shown : (objects : List Object) (s : Statement) (now : State) (job : Job) → job_shown objects s.from s.place s.call.at now ≡ Ok job → (fault_in objects s (Some ShowPage) now ≡ None) × (job_at now ≡ job)
 ends-shown objects s now job is = unless-ok (shown_fault objects s.from s.place s.call.at now) (job_at now) job is
 
--- a error is the statement's, or one of those after it
+-- an error is the statement's, or one of those after it
 pub record PassedOn (objects : List Object) (s : Statement) (o : Option Operator) (now : State) (rest : State → Result Job JobFault) (first : JobFault) : Type 0 where
   pub next : State
   pub goes : is_by is_showpage o ≡ false

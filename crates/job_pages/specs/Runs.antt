@@ -53,7 +53,7 @@ run_error len objects shown =
     or_else (option_map Fault (end_fault len objects (last_of shown)))
     (excess (slice_get shown most_pages))
 
--- statements, unless there is a error
+-- statements, unless there is an error
 abbrev pub run_unless : Option RunError → List StatementSpan
     → Result (List StatementSpan) RunError
 run_unless None spans = Ok spans

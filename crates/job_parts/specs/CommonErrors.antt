@@ -7,7 +7,7 @@ use Rattle.job_parts.specs.declared.path.PathError.TheVariants.{Fault, OutOfMemo
 use Rattle.job_parts.specs.declared.pen.Pen.{Pen}
 use Rattle.job_parts.specs.Paths.{Drawing}
 
--- a error is the fault that is meant, or out of memory, and leaves all as it was
+-- an error is the fault that is meant, or out of memory, and leaves all as it was
 abbrev pub Refuses : {X : Type 0} → PathError → X → X → Result Drawing FaultKind → Type 0
 Refuses (Fault kind) old new meant = (meant ≡ Err kind) × (new ≡ old)
 Refuses OutOfMemory old new meant = new ≡ old

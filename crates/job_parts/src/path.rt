@@ -61,7 +61,7 @@ impl Path {
     /// `moveto`: begins a subpath with one vertex, in ten-thousandths of a point (PLRM3, section 8.2).
     ///
     /// `CoordinateRange` where a coordinate is more than a million points from the origin; then `TooManyVertices` where
-    /// the path would have more than 4,096. A error leaves the path as it was.
+    /// the path would have more than 4,096. An error leaves the path as it was.
     pub fn moveto(&mut self, x: i64, y: i64) -> Result<(), PathError>
         ensures { Draws result self.old self.new (moveto x y self.old) }
     {

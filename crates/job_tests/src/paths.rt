@@ -43,7 +43,7 @@ fn vertices_text(alloc: Global, vertices: &VertexList) -> Result<String, AllocEr
     Ok(text)
 }
 
-// Statements, and the vertices that they draw, those that begin a subpath with a mark; a error stands before them.
+// Statements, and the vertices that they draw, those that begin a subpath with a mark; an error stands before them.
 static SCRIPTS: [(&[(Step, i64, i64)], &str); 18] = [
     (&[], ""),
     (

@@ -48,7 +48,7 @@ count_then T U a b c (Page fault) calm count = count ∙ calm
 count_then T U a b c (Write file) calm count = count ∙ calm
 count_then T U a b c Memory calm count = count ∙ calm
 
--- a error's count of faults, told of another result
+-- an error's count of faults, told of another result
 pub refused_count : (T U : Type 0) (a b : TrayState) (error : CommonError) → PassesNoFault {T = T} a b (Err error) → PassesNoFault {T = U} a b (Err error)
 refused_count T U a b error count = count_then T U a a b error refl count
 
@@ -79,7 +79,7 @@ job_refused source a b error reads = record {
 take_two : (x : List ℕ) (n : ℕ) (names : List (List ℕ)) → take (n + 2) (x ∷ names) ≡ x ∷ take (n + 1) names
 take_two x n names = let same : n + 2 ≡ suc (n + 1) = omega arith in ap (λ (m : ℕ). take m (x ∷ names)) same
 
--- A error of making a page is a plate without details or a fault of the page.
+-- An error of making a page is a plate without details or a fault of the page.
 abbrev pub NoneOther : Result PageParts CommonError → Type 0
 NoneOther (Ok page) = Unit {0}
 NoneOther (Err (NoDetails plate)) = Unit {0}

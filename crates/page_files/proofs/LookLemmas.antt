@@ -60,7 +60,7 @@ found_more {V} Gives none files names k values value before here = record {
 }
 
 module _ {V E : Type 0} (sought : Sought V E) where
-  -- a error, seen from a tray before
+  -- an error, seen from a tray before
   pub refuses_before : (k : ℕ) (name : List ℕ) (a b c : TrayState) (error : E) → KeepsTray a b → b.faults ≡ a.faults → Refuses sought k name b c error → Refuses sought k name a c error
   refuses_before k name a b c error keeps calm (Refuses.refused why is count stored) = Refuses.refused why is (λ open_. count open_ ∙ calm) (stored_before a b name (sought.because why) keeps stored)
   refuses_before k name a b c error keeps calm (Refuses.unread is rose taken) = Refuses.unread is (rose_before a.faults b.faults c.faults keeps.faults rose) (taken_before sought.sound a b c name keeps taken)

@@ -1,4 +1,4 @@
-//! What the bytes of a page's files call for: a error, or the files to write.
+//! What the bytes of a page's files call for: an error, or the files to write.
 #![tactic(auto)]
 
 pub mod assemble;

@@ -135,7 +135,7 @@ fn fault_of(parts: &PageParts) -> Option<PageFault>
 
 impl Page {
     /// Makes a page of these parts, or returns their first fault: that of the first plate that differs from plate 0,
-    /// then that of the number of samples, then that of the first zone that reaches too far. A error gives the parts
+    /// then that of the number of samples, then that of the first zone that reaches too far. An error gives the parts
     /// back unchanged.
     pub fn new(parts: PageParts) -> Result<Page, (PageFault, PageParts)>
         requires { IsParts parts }

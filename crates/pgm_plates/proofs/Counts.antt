@@ -1,4 +1,4 @@
--- The count of a tray's faults that a error keeps, whatever was answered before it.
+-- The count of a tray's faults that an error keeps, whatever was answered before it.
 use Rattle.std.proofs.Common.{◌≡◌, ℕ, Err, ◌∙◌}
 use Rattle.outside.specs.Tray.{TrayState}
 use Rattle.pgm_plates.specs.declared.plate.PlateFault.TheVariants.{BadMagic, BadHeader, SideRange, TooManySamples, MaxvalRange, SampleAboveMaxval, Truncated, TrailingBytes}

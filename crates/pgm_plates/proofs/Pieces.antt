@@ -167,7 +167,7 @@ above_on maxval count want place xs bytes fit few above = record {
       omega (arith, above.within);
 }
 
--- A error after some samples is one of the whole raster.
+-- An error after some samples is one of the whole raster.
 pub refused_on : (maxval count want start : ℕ) (a b c : TrayState) (xs : List ℕ) (error : PlateError) → Takes (raster maxval xs) a b → Fit maxval xs → length xs + want ≤ count → RasterRefused maxval want (start + length xs * sample_size maxval) b c error → RasterRefused maxval count start a c error
 refused_on maxval count want start a b c xs (Fault (SampleAboveMaxval at)) took fit few r =
     let bytes = r.0 in

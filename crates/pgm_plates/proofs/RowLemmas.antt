@@ -44,7 +44,7 @@ filled_refused maxval count start place done want a b c buf error le few is took
     refused_on maxval count want start a b c (take done buf) error took fit (omega arith)
     (subst (λ (n : ℕ). RasterRefused maxval want n b c error) (is ∙ ap (λ (n : ℕ). start + n * sample_size maxval) (sym size)) r)
 
--- Samples of which none is kept: so many more, and a error behind them.
+-- Samples of which none is kept: so many more, and an error behind them.
 abbrev pub Unkept : ℕ → ℕ → TrayState → TrayState → Type 0
 Unkept maxval count a b = (samples : List ℕ) × RasterTaken maxval count a b samples
 

@@ -88,7 +88,7 @@ pub record IsAbove (maxval count : ℕ) (bytes : List ℕ) (place : ℕ) : Type 
   pub few : length samples < count
   pub within : length bytes ≤ count * sample_size maxval
 
--- What a error in a raster of `count` samples says, which begins at `start` in the file.
+-- What an error in a raster of `count` samples says, which begins at `start` in the file.
 abbrev pub RasterRefused : ℕ → ℕ → ℕ → TrayState → TrayState → PlateError → Type 0
 RasterRefused maxval count start before after (Fault (SampleAboveMaxval at)) = (bytes : List ℕ)
     × (place : ℕ) × Takes bytes before after × IsAbove maxval count bytes place

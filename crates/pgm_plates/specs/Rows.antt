@@ -62,7 +62,7 @@ pub record HasRead (bounds : Bounds) (name : List ℕ) (before now : TrayState) 
   pub few : length samples ≤ samples_of plate.header
   pub count : now.faults ≡ before.faults
 
--- Where a header is read, no sample is read yet; a error is that of the whole plate.
+-- Where a header is read, no sample is read yet; an error is that of the whole plate.
 abbrev pub BeginsPlate : Bounds → List ℕ → TrayState → TrayState → Result OpenPlate PlateError
     → Type 0
 BeginsPlate bounds name before after (Ok plate) = HasRead bounds name before after plate []

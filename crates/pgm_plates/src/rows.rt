@@ -21,7 +21,7 @@ pub struct OpenPlate {
 
 /// Begins the file `name` and reads its header, within these bounds.
 ///
-/// With `read_rows` and `end_plate` after it, it reads what `read_plate_within` reads, and takes no memory. A error
+/// With `read_rows` and `end_plate` after it, it reads what `read_plate_within` reads, and takes no memory. An error
 /// of any of them is the one of the whole plate.
 pub fn begin_plate<T: Tray>(
     tray: &mut T,

@@ -63,7 +63,7 @@ pub record RefusesFiles (check : CheckWords) (tray tray' : TrayState) (rack rack
   pub count : PassesNoFault {T = Unit {0}} tray tray' (Err error)
   pub line : TellsText (line_of error) rack rack'
 
--- Status 3 and 4 come only where the verdict is a error of that status; and where it is one, and
+-- Status 3 and 4 come only where the verdict is an error of that status; and where it is one, and
 -- the tray's count did not rise, its status comes, or that of out of memory.
 pub record RefusedInput (words : List (List ℕ)) (tray tray' : TrayState) (rack rack' : RackState)
     (status : ℕ) : Type 0 where
@@ -106,7 +106,7 @@ pub record TellFault (words : List (List ℕ)) (tray tray' : TrayState) (rack ra
       × (IsTrue rack.tells → (count : ℕ)
       × (rack'.reported ≡ rack.reported ++ take count (text_of check.radius page)))
 
--- Every other status is a error's, whose line is printed and nothing else. That of status 7 is
+-- Every other status is an error's, whose line is printed and nothing else. That of status 7 is
 -- the one of out of memory.
 abbrev pub FaultLine : RackState → RackState → ℕ → Type 0
 FaultLine rack rack' status = status ≢ done → status ≢ not_written → status ≢ usage

@@ -41,7 +41,7 @@ pub record TellsResult (text : List ℕ) (before after : RackState) (status : �
   pub files : KeepsFiles before after
   pub answer : AnswersTell text before after status
 
--- the text, or the line where there is a error
+-- the text, or the line where there is an error
 abbrev pub Closes : Result (List ℕ) CommonError → RackState → RackState → ℕ → Type 0
 Closes (Ok text) before after status = TellsResult text before after status
 Closes (Err error) before after status = Refuses error before after status

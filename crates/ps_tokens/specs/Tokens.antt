@@ -39,7 +39,7 @@ tokens_from at zero (b ∷ bs) = tokens_then (piece_tokens at (piece_at b bs))
 abbrev pub tokens_of : List ℕ → Result (List Token) JobFault
 tokens_of bytes = tokens_from 0 0 bytes
 
--- A error is the fault that a definition gives, or out of memory.
+-- An error is the fault that a definition gives, or out of memory.
 abbrev pub Fails : {X : Type 0} → JobError → Result X JobFault → Type 0
 Fails errors.OutOfMemory meant = Unit {0}
 Fails (errors.Fault fault) meant = meant ≡ Err fault

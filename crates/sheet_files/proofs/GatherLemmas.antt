@@ -285,7 +285,7 @@ module _ (source : Sources) (budget : Budget) (a b c : List TrayState) (job : Jo
     sheet_count : (sheet : PageParts) → sheet_of job read source.names ≡ Ok sheet → plates sheet ≡ length source.inputs
     sheet_count sheet is = detailed_count (without_details job source.names) (assembled job read source.names) sheet is ∙ length-map read plane_of ∙ long
 
-    -- a error of what is made is of the details or of the sheet
+    -- an error of what is made is of the details or of the sheet
     data OfMade (error : TrapsheetError) : Type 0 where
       of_details : (plate : ℕ) → error ≡ Common (NoDetails plate) → OfMade error
       of_sheet : (common_error : SheetError) → error ≡ OfSheet common_error → OfMade error

@@ -9,7 +9,7 @@ use sheet_geometry::sheet_errors::SheetError;
 /// Why a command of a sheet did not do its work.
 #[derive(Clone, Copy, Drop)]
 pub enum TrapsheetError {
-    /// A error that a page can have as well: the words, a file, memory, or a plate without details.
+    /// An error that a page can have as well: the words, a file, memory, or a plate without details.
     Common(CommonError),
     /// The sheet of the plates is refused.
     OfSheet(SheetError),

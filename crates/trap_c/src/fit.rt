@@ -71,7 +71,7 @@ fn is_maxval(most: u32, maxval: u32) -> bool
     1 <= maxval && maxval <= most
 }
 
-/// The first tint, over all planes, that is above the maxval, as a error. The planes are searched only if `are_fit`
+/// The first tint, over all planes, that is above the maxval, as an error. The planes are searched only if `are_fit`
 /// is false.
 pub fn first_above(planes: &PlaneList, are_fit: bool) -> Option<CommonError>
     requires few { length planes.now ≤ most_plates }

@@ -96,7 +96,7 @@ pub extern "C" fn trap_planes8(
 
 /// Writes the halo of a job to `halo`: how many rows and columns a window needs round its core, on each side that is no
 /// border of the sheet. It is half the reach of the job's zones, rounded up to whole samples, and at least one. The
-/// text is empty. The status is 0, or that of the error, and a error leaves `halo` unchanged: 3 for a fault of the
+/// text is empty. The status is 0, or that of the error, and an error leaves `halo` unchanged: 3 for a fault of the
 /// job, and 7 if there is too little memory.
 #[unsafe(no_mangle)]
 pub extern "C" fn trap_halo(
@@ -116,7 +116,7 @@ pub extern "C" fn trap_halo(
 /// `trap_planes16`, with the planes of the window; `place` says where it is on the sheet, and what its core is.
 ///
 /// The text is the core's part of the report: its header has the sheet's sides, and its counts over the cores of a tiling add
-/// up to the sheet's. The status and the line of a error are those of `trap_planes16`, with two more: 2 for a place that
+/// up to the sheet's. The status and the line of an error are those of `trap_planes16`, with two more: 2 for a place that
 /// does not fit, and 4 where a zone has a vertex that is more than a million points from the window's lower left corner.
 #[unsafe(no_mangle)]
 pub extern "C" fn trap_window16(

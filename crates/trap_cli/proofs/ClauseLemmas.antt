@@ -51,7 +51,7 @@ some_files : (target : Targets) (page : PageParts) → 0 < length (outcome targe
 some_files target page = let long = length-append (plate_files target.outputs (trapped_planes page)) (record { name = target.report; bytes = report_of page (page_counts page) } ∷ []) in omega (arith, long)
 
 module _ (band : ℕ) (source : Sources) (target : Targets) (t t' : TrayState) (r r' : RackState) (status : ℕ) (receipt : Option Receipt) where
-  -- a error's line, where nothing was written before it
+  -- an error's line, where nothing was written before it
   line_of_end : (error : CommonError) (between : RackState) → between ≡ r → Refuses error between r' status → TellsText (line_of error) r r'
   line_of_end error between same closed = subst (λ (s : RackState). TellsText (line_of error) s r') same closed.line
 

@@ -36,7 +36,7 @@ fault_stands : (k : ErrorKind) (ks : Kinds) → (k ≡ OutOfMemory → ⊥) → 
 fault_stands k ks other (inl memory) = absurd (other memory)
 fault_stands k ks other (inr among) = has_fault k ks among
 
--- a error for another cause than memory is one of words that are not taken
+-- an error for another cause than memory is one of words that are not taken
 pub not_taken : (app : App) (words : List Text) (k : ErrorKind) → app ≡ page_app → (k ≡ OutOfMemory → ⊥) → (is_simple_and_free app ≡ true → (k ≡ OutOfMemory) ⊎ IsAmong k (fault_of app words)) → is_taken words ≡ false
 unfolding is_taken
 not_taken app words k same other kinds =

@@ -85,7 +85,7 @@ pub record RefusesFiles (page : PageWords) (tray tray' : TrayState) (rack rack' 
   pub count : PassesNoFault {T = Unit {0}} tray tray' (Err error)
   pub line : TellsText (line_of error) rack rack'
 
--- Status 3 and 4 of a page come only where the verdict is a error of that status; and where it
+-- Status 3 and 4 of a page come only where the verdict is an error of that status; and where it
 -- is one, and the tray's count did not rise, its status comes, or out of memory.
 pub record RefusedInput (words : List (List ℕ)) (tray tray' : TrayState) (rack rack' : RackState)
     (status : ℕ) : Type 0 where

@@ -15,7 +15,7 @@ pub struct Ended {
     pub receipt: Option<Closed>,
 }
 
-// Prints the line of a error, which ends the call without a receipt.
+// Prints the line of an error, which ends the call without a receipt.
 pub(crate) fn end_with_error<R: Rack>(rack: &mut R, error: &CommonError) -> Ended
     ensures line { Refuses error.now (R.state rack.old) (R.state rack.new) result.status }
     ensures receipt { result.receipt ≡ None }

@@ -103,7 +103,7 @@ turn_at k u (l ∷ ls) line ls' a b (r ∷ rs) reply rs' same turn =
       moved (k + 1 + length ls) (k + length (l ∷ ls)) (used + accepted rs) (u + accepted (r ∷ rs)) line later.0 later.1 reply (omega arith) (omega arith) later.3,
     )
 
--- what a error says of the files of a tray that is the same as before
+-- what an error says of the files of a tray that is the same as before
 judged : (source : Sources) (m n : TrayState) (common_error : CommonError) → AnswersPage source m n (Err common_error) → IsTrue m.tells → IsJudged m.file source common_error
 judged source m n (errors.Job fault) answer tells = answer.1 tells
 judged source m n (errors.NoDetails k) answer tells = answer.1 tells

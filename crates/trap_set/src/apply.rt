@@ -31,7 +31,7 @@ const MOST_NUMBERS: usize = 19;
 
 /// Applies the set in the file `name` to the planes, run by run. It allocates nothing.
 ///
-/// The text is read line by line and each line checked at its end. After a error the planes have the runs of the good
+/// The text is read line by line and each line checked at its end. After an error the planes have the runs of the good
 /// lines before it. Whether the set is for these planes is checked after its second line. Whatever the answer, the
 /// planes keep their number, sides and maxvals, and if no tint was above a maxval before, none is afterwards.
 pub fn apply_set<T: Tray>(tray: &mut T, name: &str, planes: &mut PlaneList) -> Result<(), SetError>

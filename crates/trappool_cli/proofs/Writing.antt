@@ -27,7 +27,7 @@ refused_as : (line : LineParts) (page : Option PageParts) (error : CommonError) 
 refused_as line None error r = (refl, refl)
 refused_as line (Some page) error r = (refl, refl)
 
--- A error touches no file.
+-- An error touches no file.
 pub refused_kept : (line : LineParts) (k : ℕ) (page : Option PageParts) (error : CommonError) (r : RackState) → WritesReply line (reply_parts k page (outcomes.Refused error)) r r (said.Refused error)
 refused_kept line k page error r = record {
   keeps = kept_same r;

@@ -110,7 +110,7 @@ module _ (source : Sources) (bytes : List ℕ) (k : ℕ) (a b : TrayState) where
 pub can_assemble : (k : ℕ) (inputs names : List (List ℕ)) (a b : TrayState) (read : List Plane) → 1 ≤ length inputs → length inputs ≤ 16 → length names ≡ length inputs → ReadsImages k inputs a b (Ok read) → CanAssemblePlanes read names
 can_assemble k inputs names a b read some few named reads = record { some = omega (arith, reads.answer.1); few = omega (arith, reads.answer.1); named = named ∙ sym reads.answer.1; in_range = λ j d within. (reads.answer.2 j d within).0 }
 
--- a error of the page, by the names of its words
+-- an error of the page, by the names of its words
 pub error_named : (job : JobRead) (read : List Plane) (common_error : CommonError) {names others : List (List ℕ)} → others ≡ names → (common_error ≡ Memory) ⊎ (assembly_of_planes job read others ≡ Err common_error) → (common_error ≡ Memory) ⊎ (assembly_of_planes job read names ≡ Err common_error)
 error_named job read common_error same (inl memory) = inl memory
 error_named job read common_error same (inr is) = inr (ap (λ (ns : List (List ℕ)). assembly_of_planes job read ns) (sym same) ∙ is)

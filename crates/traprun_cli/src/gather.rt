@@ -79,7 +79,7 @@ pub fn gather_page<T: Tray>(
     }
 }
 
-// Adds the page number to a error of its job. Out of memory is reported without one.
+// Adds the page number to an error of its job. Out of memory is reported without one.
 fn job_error(page: u32, common_error: JobError) -> TraprunError
     ensures { result ≡ job_error_spec page common_error }
 {

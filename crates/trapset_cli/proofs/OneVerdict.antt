@@ -161,7 +161,7 @@ module _ (laws : PlateLaws one_page) (files : List ℕ → Option (List ℕ)) wh
     given_or_refused new reason on (of_others is a) = (let both = both_on (Gives new) Differ on a in fits_or_differs both.0 both.2.head both.2.runs both.1 both.2.is_file both.2.fits both.3)
 
   module _ (words : TrapsWords) where
-    -- a cause is a error of the page
+    -- a cause is an error of the page
     page_of : (reason : TrapsetError) → IsTraps files words (Refused reason) → (error : CommonError) × (reason ≡ errors.Page error) × IsPageVerdict one_page files (sources_of words) no_files (page_refused error)
     page_of (errors.Page error) is = (error, refl, is)
     page_of errors.NoCommand is = absurd is

@@ -116,8 +116,8 @@ pub record Changes (order : SheetWords) (trays trays' : List TrayState)
   pub changed : HasChanged (sources_of order) plate trays trays'
   pub stops : StopsInParts order trays racks racks' (Changed plate)
 
--- Status 3 and 4 come only where the verdict is a error of that status, or, status 4, where a
--- plate has changed whose tray does not tell its file. Where the verdict is a error, and no
+-- Status 3 and 4 come only where the verdict is an error of that status, or, status 4, where a
+-- plate has changed whose tray does not tell its file. Where the verdict is an error, and no
 -- tray's count rose, its status comes, or 7.
 pub record RefusedInput (words : List (List ℕ)) (trays trays' : List TrayState)
     (racks racks' : List RackState) (status : ℕ) : Type 0 where
