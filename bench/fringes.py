@@ -1,9 +1,15 @@
 #!/usr/bin/env python3
 # SPDX-License-Identifier: Apache-2.0
-"""Counts coloured fringes around reversed type in a rich black, crisp and antialiased, with any one plate off by one
-pixel, before trapkeep and after. The page is 600 dpi, and inks are drawn back by 0.08 mm."""
+"""Counts what keepaway is for, before trapkeep and after: coloured fringes around reversed type in a rich black, crisp
+and antialiased, with any one plate off by one pixel; and with a folder of plates that `press/plates` made, the white
+that peeks out on bare film with its plate off by five pixels.
+
+    bench/fringes.py                       drawn type, 600 dpi, black drawn back by 0.08 mm
+    bench/fringes.py FOLDER WHITE          the plates of a page, the plate WHITE drawn back by 0.2 mm
+"""
 import re
 import subprocess
+import sys
 import tempfile
 from pathlib import Path
 from typing import Dict, List
@@ -71,6 +77,18 @@ def fringes(now: Planes, first: Planes) -> int:
     return int(found.sum())
 
 
+def peeks(now: Planes, first: Planes, white: str, colours: List[str], reach: int) -> int:
+    """Pixels of bare film on which white shows, away from white without colour, with its plate off so far."""
+    coloured = sum(first[name].astype(int) for name in colours) * 10 >= 255
+    colour_now = sum(now[name].astype(int) for name in colours) * 10 >= 255
+    film = (first[white] < 128) & ~coloured
+    alone = widest(((first[white] >= 128) & ~coloured).astype(np.uint8), reach) > 0
+    found = np.zeros(film.shape, bool)
+    for right, down in AWAY:
+        found |= film & (moved(now[white], right * reach, down * reach) >= 128) & ~colour_now & ~alone
+    return int(found.sum())
+
+
 def read_plate(path: Path) -> Plane:
     """The tints of a plate of one byte a sample: 255 is full ink."""
     data = path.read_bytes()
@@ -107,8 +125,22 @@ def process_job() -> str:
             "setpagedevice << >> settrapparams showpage")
 
 
-def main() -> None:
-    """Prints the counts of the drawn pages."""
+def tell_peeks(folder: Path, white: str) -> None:
+    """Prints how much white peeks out on a page that press/plates made."""
+    job = (folder / "page.job").read_text(encoding="utf-8")
+    first = {path.stem: read_plate(path) for path in sorted(folder.glob("*.pgm"))}
+    clear = re.findall(r"/(\S+) << [^>]*/(?:Transparent|OpaqueIgnore) ", job)
+    colours = [name for name in first if name != white and name not in clear]
+    after = kept(first, ["--underprint", f"{white}=0.5669"], job)
+    print(f"white that peeks out, {white} off by 5 pixels: {peeks(first, first, white, colours, 5)} before, "
+          f"{peeks(after, first, white, colours, 5)} after")
+
+
+def main(words: List[str]) -> None:
+    """Prints the counts of the drawn pages, or those of the plates in a folder."""
+    if words:
+        tell_peeks(Path(words[0]), words[1])
+        return
     for kind, zoom in (("crisp", 1), ("antialiased", 4)):
         first = drawn_type(zoom)
         after = kept(first, ["--rich-black", "0.2268"], process_job())
@@ -116,4 +148,4 @@ def main() -> None:
 
 
 if __name__ == "__main__":
-    main()
+    main(sys.argv[1:])

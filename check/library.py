@@ -10,6 +10,7 @@ library is the one that TRAP_LIBRARY names, or library/out/libtrap.so.1.
 """
 import array
 import ctypes
+import functools
 import math
 import os
 import random
@@ -197,8 +198,8 @@ def made(rng):
 # Windows
 
 def is_on_sheet(call, stands):
-    """Whether a window lies on its sheet, and its core in the window."""
-    return (stands.left + call.width <= stands.sheet_width <= LONGEST_SHEET_SIDE
+    """Whether a window lies on its sheet, and its core, which is not empty, in the window."""
+    return (stands.core_width > 0 and stands.core_height > 0 and stands.left + call.width <= stands.sheet_width <= LONGEST_SHEET_SIDE
             and stands.top + call.height <= stands.sheet_height <= LONGEST_SHEET_SIDE
             and stands.core_left + stands.core_width <= call.width and stands.core_top + stands.core_height <= call.height)
 
@@ -338,19 +339,20 @@ def is_same_sheet(sheet, call, stands):
         for c in range(len(names)) for y in range(call.height) for x in range(call.width))
 
 
-def window_by_package(call, stands):
-    """What the package's call gives."""
+def window_by_package(call, stands, opened=None):
+    """What the package's call gives, with the job's bytes or an open job."""
+    trap = opened.trap_window if opened else functools.partial(trapping.trap_window, call.job)
     stack = array.array(call.code, call.numbers)
     try:
-        told = trapping.trap_window(call.job, call.names.decode("latin-1").split("\n"), stack, sheet=stands[:2], at=stands[2:4],
-                                    core=stands[4:], maxval=call.maxval, width=call.width, height=call.height, step=call.step)
+        told = trap(call.names.decode("latin-1").split("\n"), stack, sheet=stands[:2], at=stands[2:4], core=stands[4:],
+                    maxval=call.maxval, width=call.width, height=call.height, step=call.step)
     except trapping.Refusal as refusal:
         return Answer(refusal.status, refusal.line + "\n", list(stack))
     return Answer(0, told.text, list(stack))
 
 
 def refuses_empty_core(call, stands):
-    """Whether the package refuses an empty core, for which the library traps nothing."""
+    """Whether the package refuses an empty core before the library does."""
     try:
         window_by_package(call, stands)
     except ValueError:
@@ -358,18 +360,37 @@ def refuses_empty_core(call, stands):
     return False
 
 
+def halo_by_open_job(job):
+    """The halo of an open job."""
+    with trapping.OpenJob(job) as opened:
+        return opened.halo()
+
+
 def halo_faults(sheet):
-    """What differs of the call that tells the halo."""
+    """What differs of the calls that tell the halo."""
     try:
         answer = halo_of(judged_job(sheet.job))
     except Refusal as refusal:
         answer = refusal.line
+    for name, call in (("trap_halo", trapping.halo), ("trap_open_halo", halo_by_open_job)):
+        try:
+            told = call(sheet.job)
+        except trapping.Refusal as refusal:
+            told = refusal.line
+        if told != answer:
+            yield "%s, which gives %s," % (name, told)
+
+
+def open_faults(call, stands, answer):
+    """What differs of a window by an open job, which is asked for twice. Whether a job is opened is compared by halo_faults."""
     try:
-        told = trapping.halo(sheet.job)
-    except trapping.Refusal as refusal:
-        told = refusal.line
-    if told != answer:
-        yield "trap_halo, which gives %s," % told
+        opened = trapping.OpenJob(call.job)
+    except trapping.Refusal:
+        return
+    with opened:
+        for turn in ("an open job's window", "an open job's second window"):
+            if window_by_package(call, stands, opened) != answer:
+                yield turn, answer
 
 
 def window_faults(sheet, rng, kinds):
@@ -384,8 +405,10 @@ def window_faults(sheet, rng, kinds):
     if not stands.core_width or not stands.core_height:
         if not refuses_empty_core(call, stands):
             yield "trap_window, which takes an empty core,", answer
-    elif unfit(call) is None and window_by_package(call, stands) != answer:
-        yield "trap_window", answer
+    elif unfit(call) is None:
+        if window_by_package(call, stands) != answer:
+            yield "trap_window", answer
+        yield from open_faults(call, stands, answer)
 
 
 def faults(call, answer):

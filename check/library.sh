@@ -72,6 +72,8 @@ fi
 
 compiled refused "$library/libtrap.a" -Wl,--wrap=malloc,--wrap=realloc,--wrap=free
 "$out/refused"
+compiled handle "$library/libtrap.a" -Wl,--wrap=malloc,--wrap=realloc,--wrap=free
+"$out/handle"
 shared=(-pthread -L"$library" -ltrap "-Wl,-rpath,$library")
 compiled threads "${shared[@]}"
 "$out/threads"
@@ -151,5 +153,6 @@ echo "library: Valgrind finds nothing on the poster, as a page, tile by tile and
 valgrind -q --tool=helgrind --error-exitcode=9 "$out/threads" 16
 echo "library: Valgrind's helgrind finds nothing between eight threads"
 valgrind -q --error-exitcode=9 --leak-check=full "$out/random" 500 "$2" 2 >"$out/told"
+valgrind -q --error-exitcode=9 --leak-check=full "$out/handle" >"$out/told"
 valgrind -q --tool=helgrind --error-exitcode=9 "$out/random" 300 "$2" 8 >"$out/told"
-echo "library: Valgrind finds nothing in random calls"
+echo "library: Valgrind finds nothing in random calls, and nothing in a job that is opened and closed"

@@ -85,6 +85,7 @@ def runs() -> List[Run]:
         Run("presscheck", ("16", "job", *inputs), 0),
         Run("presscheck", ("16", "bad", *inputs), 3),
         *pages("trapkeep", ("--rich-black", "1")),
+        *pages("trapkeep", ("--underprint", "Ink0=1")),
         Run("trappool", ("64", "list"), 0),
         Run("trappool", ("64", "bad"), 3),
     ]

@@ -7,8 +7,6 @@ Each value was worked out by hand from the rule or the public format, and none i
 import sys
 
 from slow import run
-from slow.refusals import Refusal
-from slow.trapkeep import run_all
 from slow.entries import S
 from slow.outside import Held
 from slow.pages import zone_reach
@@ -429,19 +427,10 @@ def keep(options, plates, names=("Cyan", "Black"), more="", resolution=72, width
              for name, tints in zip(names, plates)}
     outside = Held(dict(files, job=job("", more, resolution, end)))
     words = [*options, "job", "report", *("%s:%s:%s.out" % (name, name, name) for name in names)]
-    status = status_of(words, outside)
+    status = run("trapkeep", words, outside)
     new = [outside.files.get(name + ".out") for name in names]
     report = outside.files.get("report", b"").decode().splitlines()
     return (status, outside.told), [data and [255 - byte for byte in data[-len(plates[0]):]] for data in new], report
-
-
-def status_of(words, outside):
-    """The status of a run of `trapkeep` with both of its uses; what is refused is told."""
-    try:
-        return run_all(words, outside) or 0
-    except Refusal as refusal:
-        outside.tell(refusal.line + "\n")
-        return refusal.status
 
 
 def rich_black():

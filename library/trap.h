@@ -2,8 +2,9 @@
 /* trap.h - the trapping engine for C and C++ programs: libtrap.
  *
  * A call traps the planes of one page in place, in memory, or the core of one window of a sheet. It opens no file, starts no
- * thread and keeps no state, so any number of threads may call at once, each with its own samples. It allocates by malloc and
- * frees before it returns. docs/LIBRARY.md says what is guaranteed and what a call costs.
+ * thread and keeps no state but in an open job. So any number of threads may call at once, each with its own samples and its
+ * own open job. It allocates by malloc, and frees all but the memory of an open job before it returns. docs/LIBRARY.md says
+ * what is guaranteed and what a call costs.
  *
  * C99 or C++98, x86-64 with SSE4.2, Linux.
  */
@@ -20,7 +21,8 @@ extern "C" {
 /* What a call returns. The numbers are the exit statuses of the program trap. Names of constants begin with LIBTRAP_, since
  * <signal.h> has TRAP_ names of its own. */
 #define LIBTRAP_DONE 0   /* the planes are trapped, and the text is the report */
-#define LIBTRAP_CALL 2   /* an argument is wrong: "call: Names", "Sides", "Step", "Maxval", "Samples" or "Place", the first */
+#define LIBTRAP_CALL 2   /* an argument is wrong: "call: Null", "Handle", "Names", "Sides", "Step", "Maxval", "Samples" or "Place",
+                          * the first */
 #define LIBTRAP_JOB 3    /* the job has a fault, or lacks the details of a plane's colorant */
 #define LIBTRAP_PAGE 4   /* a sample is above the maxval, the planes do not form a page, or a zone is too far from a window */
 #define LIBTRAP_MEMORY 7 /* malloc returned null: "out of memory" */
@@ -59,12 +61,15 @@ typedef uint8_t trap_status;
  *                       fits is written; the rest of the buffer is not changed.
  *   text_len            is set to the full length of that text in bytes, above text_size if it did not fit.
  *
- * Returns LIBTRAP_DONE, and the samples are those that the trapping rule gives; or another status, and no sample is changed.
+ * Returns LIBTRAP_DONE, and the samples are those that the trapping rule gives; or another status, and no sample is changed. A null
+ * pointer is "call: Null", before all else, but for one whose size is 0.
  *
  * What the caller must ensure, and nothing checks:
- *   - No pointer is null, even where its size is 0. Each points to as many elements as the size after it says, aligned for them.
- *   - samples, text and *text_len share no byte with each other, with job, with names or with *place; nor does *halo.
- *   - Until the call returns, no other thread accesses samples, text, *text_len or *halo, and none writes job, names or *place.
+ *   - Each pointer points to as many elements as the size after it says, aligned for them.
+ *   - samples, text, *text_len and *handle share no byte with each other, with job, with names or with *place; nor does *halo.
+ *   - Until the call returns, no other thread accesses samples, text, *text_len, *handle or *halo, and none writes job, names
+ *     or *place.
+ *   - *handle is LIBTRAP_NO_JOB, or as the library left it.
  *   - malloc, realloc and free are one allocator, and align blocks to 16 bytes as the C library's do.
  *   - The call is not made from a signal handler, nor in a forked child of a program with threads.
  *   - The calling thread has 64 KB of stack left.
@@ -105,13 +110,11 @@ trap_status trap_halo(const char *job, size_t job_size, uint32_t *halo,
  *
  * The arguments are those of trap_planes8 and trap_planes16, for the window in place of the page: width and height are the
  * window's. The place must be valid:
- *   - The window is on the sheet, and the core in the window.
+ *   - The window is on the sheet, and the core in the window. The core has at least one column and one row.
  *   - On each side that is not a border of the sheet, the window extends at least trap_halo samples beyond its core.
  *   - If the job has zones (settrapzone, with a path or without), the window's left and lower sides lie on a grid, which is
  *     counted from the sheet's lower left corner. Its lines are resolution / gcd(resolution, 720000) samples apart: 1 at most
  *     common resolutions (72, 96, 150, 300, 600, 1200, 2400), and 127 at 2540.
- *
- * A core without rows or columns traps nothing.
  *
  * Returns LIBTRAP_DONE, and each sample of the core is what the trapping rule gives for the whole sheet, whatever lies beyond the
  * window; all other samples are unchanged. The text is the core's part of the report: its line "page" has the sheet's sides, and
@@ -134,6 +137,47 @@ trap_status trap_window16(const char *job, size_t job_size, const char *names, s
                           uint32_t width, uint32_t height, uint32_t step, uint32_t maxval,
                           const struct trap_place *place,
                           char *text, size_t text_size, size_t *text_len);
+
+/* An open job: the library has read it once, for any number of windows. Begin with LIBTRAP_NO_JOB; only the library writes the
+ * fields. Do not copy it: a copy is not another open job. Each thread opens a job of its own. */
+struct trap_job {
+  void *inner;
+  uint8_t is_open;
+};
+
+#define LIBTRAP_NO_JOB {0, 0}
+
+/* trap_open: reads a job and keeps it open until trap_close.
+ *
+ *   job, job_size       the bytes of the job, as above. They are copied.
+ *   handle              is opened. If it is open already, the answer is "call: Handle".
+ *   text, text_size, text_len   as above. The text is empty, or the error line.
+ *
+ * Returns LIBTRAP_DONE; or LIBTRAP_CALL, LIBTRAP_JOB or LIBTRAP_MEMORY, and *handle is not changed.
+ */
+trap_status trap_open(const char *job, size_t job_size, struct trap_job *handle,
+                      char *text, size_t text_size, size_t *text_len);
+
+/* Closes a job and frees its memory. Does nothing if it is not open, or if handle is null. */
+void trap_close(struct trap_job *handle);
+
+/* Sets *halo as trap_halo does. Returns LIBTRAP_DONE; or LIBTRAP_CALL if the job is not open or a pointer is null, and *halo is not
+ * changed. */
+trap_status trap_open_halo(struct trap_job *handle, uint32_t *halo);
+
+/* trap_open_window8, trap_open_window16: do what trap_window8 and trap_window16 do with the bytes that the job was opened from.
+ * Earlier calls make no difference to the result. If the job is not open, the answer is "call: Handle", whatever else is wrong. */
+trap_status trap_open_window8(struct trap_job *handle, const char *names, size_t names_size,
+                              uint8_t *samples, size_t sample_count,
+                              uint32_t width, uint32_t height, uint32_t step, uint32_t maxval,
+                              const struct trap_place *place,
+                              char *text, size_t text_size, size_t *text_len);
+
+trap_status trap_open_window16(struct trap_job *handle, const char *names, size_t names_size,
+                               uint16_t *samples, size_t sample_count,
+                               uint32_t width, uint32_t height, uint32_t step, uint32_t maxval,
+                               const struct trap_place *place,
+                               char *text, size_t text_size, size_t *text_len);
 
 /* The version of the library, as LIBTRAP_VERSION has that of the header. */
 uint32_t trap_version(void);

@@ -15,8 +15,10 @@ import workspace
 TOP = workspace.TOP
 DOCUMENTS = ("*.md", "docs/*.md", "*/README.md", "examples/*/README.md")
 # Words that are right here and look like misspelt others: of Rust, of manual pages, and of names.
-PASSED = "crate,crates,nd,te,bu,inforce,rouge"
-PLAIN = {"src", "ok", "th", "rects", "inkedits", "hotfolder", "icc"}
+PASSED = "crate,crates,nd,te,bu,fo,inforce,rouge"
+PLAIN = {"src", "ok", "th", "rects", "inkedits", "hotfolder", "icc", "png", "readmes"}
+# Programs and libraries, and words of code that goes on over the end of a line.
+NAMES = {"cairo", "gs", "inkscape", "libjs", "libtrap", "poppler", "zlib", "lineto", "moveto", "rw", "settrapzone"}
 SKIPPED = re.compile(r"^(crates|release|press/tests/inputs|press/inks)/|\.(png|gz|pdf|pgm|icc|edit|zip)$")
 NAME = re.compile(r"\S*[_/\\.=@<>]\S*\w|\S*\d\S*")
 
@@ -33,7 +35,8 @@ def known() -> set[str]:
     lines = (TOP / "docs" / "GLOSSARY.md").read_text(encoding="utf-8").splitlines()
     rows = [line.split("|")[1] for line in lines if line.startswith("|")]
     names = [part for name in workspace.crates() for part in (name, *name.split("_"))]
-    return {word.lower() for row in rows for word in words_of(row.replace("`", ""))} | PLAIN | set(names)
+    words = {word.lower() for row in rows for word in words_of(row.replace("`", ""))}
+    return words | PLAIN | NAMES | set(names)
 
 
 def unknown_words() -> list[str]:
@@ -52,8 +55,8 @@ def unknown_words() -> list[str]:
 
 def misspelt() -> list[str]:
     """What codespell finds in the texts of the repository."""
-    listed = subprocess.run(["git", "ls-files"], cwd=TOP, capture_output=True, text=True, check=True).stdout.splitlines()
-    names = [name for name in listed if not SKIPPED.search(name) and (TOP / name).is_file()]
+    listed = subprocess.run(["git", "ls-files"], cwd=TOP, capture_output=True, text=True, check=True)
+    names = [name for name in listed.stdout.splitlines() if not SKIPPED.search(name) and (TOP / name).is_file()]
     done = subprocess.run(["codespell", "-L", PASSED, *names], cwd=TOP, capture_output=True, text=True, check=False)
     return done.stdout.splitlines()
 

@@ -7,6 +7,7 @@ from typing import NamedTuple
 TOP = Path(__file__).resolve().parent.parent
 # The crate of the library, which is stamped and released as the programs are.
 LIBRARY = "trap_c"
+LINKED = ("library/calls.c",)
 PARTS = ("src", "specs", "proofs")
 
 
@@ -75,12 +76,13 @@ def below(crate: str, known: dict[str, Crate]) -> list[str]:
 
 def stamp(roots: list[str], top: Path = TOP) -> str:
     """A checksum of every text that these crates are made of: src/, specs/ and proofs/ of each crate below, and its
-    line in crates.txt."""
+    line in crates.txt; for the library also what is linked with it."""
     known = crates(top)
     used = {name for root in roots for name in below(root, known)}
     lines = sorted((known[name].line for name in used), key=str.encode)
     folders = [top / "crates" / name / part for name in used for part in PARTS]
     files = [path for folder in folders for path in folder.rglob("*") if path.is_file()]
+    files += [top / file for file in LINKED if LIBRARY in roots and (top / file).is_file()]
     text = "".join(line + "\n" for line in lines)
     for place, path in sorted((path.relative_to(top).as_posix(), path) for path in files):
         text += f"{hashlib.sha256(path.read_bytes()).hexdigest()}  {place}\n"

@@ -120,6 +120,23 @@ def trap_ctypes():
         assert all(list(planes[ink]) == plane.ravel().tolist() for ink, plane in zip(INKS, AFTER))
 
 
+def open_jobs():
+    """A job that is opened traps as its bytes do, also from four threads in turn; once it is closed it does nothing."""
+    def trapped(_):
+        stack = numpy.stack(BEFORE)
+        report = opened.trap_window(INKS, stack, sheet=(400, 300), core=(0, 0, 400, 300), maxval=255)
+        return report.text == REPORT and (stack == numpy.stack(AFTER)).all()
+
+    with trapping.OpenJob(JOB) as opened, ThreadPoolExecutor(4) as pool:
+        assert opened.halo() == trapping.halo(JOB)
+        assert all(pool.map(trapped, range(8)))
+    opened.close()
+    raises(trapping.Refusal, opened.halo)
+    raises(trapping.Refusal, lambda: trapped(0))
+    raises(trapping.Refusal, lambda: trapping.OpenJob(b"<<"))
+    raises(TypeError, lambda: trapping.OpenJob(5))
+
+
 def shared_memory():
     one = numpy.zeros((40, 80), numpy.uint8)
     for cyan, magenta in ((one, one), (one[:20], one[10:30]), (one[:, :40], one[:, 39:79])):
@@ -134,6 +151,6 @@ def threads():
 
 
 for tried in (lambda: trap_apart(numpy.uint8), lambda: trap_apart(numpy.uint16), trap_views, trap_stacks, trap_ctypes, refused, wrong_arguments, shared_memory,
-              threads):
+              threads, open_jobs):
     tried()
-print("library: NumPy arrays, views, stacks, refusals, wrong arguments and four threads, as they have to be")
+print("library: NumPy arrays, views, stacks, refusals, wrong arguments, four threads and open jobs, as they have to be")

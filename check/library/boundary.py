@@ -30,6 +30,7 @@ IN_C: Dict[str, Tuple[str, ...]] = {
     "&mut [u16]": ("uint16_t *{}", "size_t {}_size"),
     "u32": ("uint32_t {}",),
     "&Place": ("const struct trap_place *{}",),
+    "&mut JobHandle": ("struct trap_job *{}",),
     "&mut usize": ("size_t *{}",),
     "&mut u32": ("uint32_t *{}",),
 }
@@ -42,11 +43,12 @@ IN_PYTHON: Dict[str, Tuple[object, ...]] = {
     "size_t ": (ctypes.c_size_t,),
     "uint32_t ": (ctypes.c_uint32,),
     "const struct trap_place *": (ctypes.POINTER(_library.Place),),
+    "struct trap_job *": (ctypes.POINTER(_library.Handle),),
     "size_t *": (ctypes.POINTER(ctypes.c_size_t),),
     "uint32_t *": (ctypes.POINTER(ctypes.c_uint32),),
 }
-RESULTS = {"u8": "trap_status", "u32": "uint32_t"}
-RESULTS_IN_PYTHON = {"trap_status": ctypes.c_uint8, "uint32_t": ctypes.c_uint32}
+RESULTS = {"u8": "trap_status", "u32": "uint32_t", "": "void"}
+RESULTS_IN_PYTHON = {"trap_status": ctypes.c_uint8, "uint32_t": ctypes.c_uint32, "void": None}
 
 
 @dataclass(frozen=True)
@@ -74,7 +76,7 @@ def exports() -> Dict[str, Declared]:
     """The functions that the crate exports, as C has to declare them."""
     text = (TOP / "crates/trap_c/src/lib.rt").read_text(encoding="utf-8")
     found = {}
-    for name, inside, result in re.findall(r'pub extern "C" fn (\w+)\((.*?)\) -> (\w+)', text, re.DOTALL):
+    for name, inside, result in re.findall(r'pub extern "C" fn (\w+)\(([^)]*)\)(?: -> (\w+))?', text):
         arguments: List[str] = []
         for one in filter(None, (in_words(it) for it in inside.split(","))):
             argument, kind = one.split(": ")
@@ -119,6 +121,27 @@ def place_of_header() -> List[str]:
         assert kind == "uint32_t", f"a field of struct trap_place is a {kind}"
         names += listed.split(", ")
     return names
+
+
+def struct_of_crate(file: str, name: str) -> str:
+    """The fields of a struct with #[repr(C)] of job_handles, but its ghost fields."""
+    text = (TOP / "crates/job_handles/src" / file).read_text(encoding="utf-8")
+    body = re.search(rf"#\[repr\(C\)\]\n[^{{]*pub struct {name} \{{(.*?)\n\}}", text, re.DOTALL)
+    assert body, f"crates/job_handles/src/{file}: no struct {name} with #[repr(C)]"
+    return in_words(" ".join(line for line in body.group(1).split("\n") if "ghost" not in line))
+
+
+def handle_faults() -> List[str]:
+    """How struct trap_job differs from the crate's handle, which is a pointer and a flag: an allocator takes no bytes."""
+    crate = (struct_of_crate("job_handle.rt", "JobHandle"), struct_of_crate("handle.rt", "Handle"))
+    body = re.search(r"struct trap_job \{(.*?)\};", header(), re.DOTALL)
+    stands = in_words(body.group(1)) if body else ""
+    fields = _library.Handle._fields_
+    wanted = ("inner: Handle, is_open: bool,", "at: *mut u8, alloc: Global,")
+    is_same = crate == wanted and stands == "void *inner; uint8_t is_open;"
+    if is_same and fields == [("inner", ctypes.c_void_p), ("is_open", ctypes.c_uint8)]:
+        return []
+    return [f"a handle is {crate} in the crate, {stands} in trap.h, {fields} in Python"]
 
 
 def version_of_crate() -> int:
@@ -166,6 +189,7 @@ def main() -> int:
         faults.append(f"Place is {place_of_crate()} in the crate, {place_of_header()} in trap.h, {fields} in Python")
     if f"#define LIBTRAP_VERSION {version_of_crate()} " not in (TOP / "library/trap.h").read_text(encoding="utf-8"):
         faults.append(f"trap.h has another LIBTRAP_VERSION than {version_of_crate()}, which trap_version answers")
+    faults += handle_faults()
     for fault in faults:
         print(f"check/library/boundary.py: {fault}", file=sys.stderr)
     if not faults:

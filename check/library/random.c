@@ -3,7 +3,8 @@
  * more as docs/JOBS.md and docs/WORKINGS.md have it, sample by sample. Each case is a page, whose call has to give the rule's samples
  * and report; windows of this page, whose cores have to be the page's, with their part of the report; its halo; and calls with an
  * argument, a sample or a job that is wrong, which have to change no sample. Each buffer lies against a page of memory that nobody may
- * touch, before it or behind it in turn, and what else is around it has to stay. It ends with 1 at the first difference. */
+ * touch, before it or behind it in turn, and what else is around it has to stay. Half of the windows are called by the open job. It ends
+ * with 1 at the first difference. */
 #define _GNU_SOURCE
 #include <pthread.h>
 #include <stdarg.h>
@@ -362,6 +363,7 @@ struct thread {
   struct dice dice;
   struct buffer job, names, samples, text, place;
   struct sheet sheet;
+  struct trap_job open;
   unsigned char before[2 * MOST_SAMPLES], wanted[2 * MOST_SAMPLES];
   unsigned long calls, done, refused;
 };
@@ -407,6 +409,47 @@ static char *joined(char *into, const struct sheet *p) {
   return into;
 }
 
+/* The arguments of a call, as they lie in their buffers. */
+struct lent {
+  const struct asked *a;
+  const char *job;
+  size_t job_size;
+  const char *names;
+  void *samples;
+  char *text;
+  size_t text_size, *text_len;
+  const struct trap_place *place;
+};
+
+static int call_page(const struct lent *l) {
+  const struct asked *a = l->a;
+  uint32_t w = a->width, h = a->height, step = a->step, maxval = (uint32_t)a->maxval;
+  size_t ns = strlen(a->names);
+  if (a->bytes == 1)
+    return trap_planes8(l->job, l->job_size, l->names, ns, l->samples, a->count, w, h, step, maxval, l->text, l->text_size, l->text_len);
+  return trap_planes16(l->job, l->job_size, l->names, ns, l->samples, a->count, w, h, step, maxval, l->text, l->text_size, l->text_len);
+}
+
+static int call_window(const struct lent *l) {
+  const struct asked *a = l->a;
+  uint32_t w = a->width, h = a->height, step = a->step, maxval = (uint32_t)a->maxval;
+  size_t ns = strlen(a->names);
+  if (a->bytes == 1)
+    return trap_window8(l->job, l->job_size, l->names, ns, l->samples, a->count, w, h, step, maxval, l->place, l->text, l->text_size,
+                        l->text_len);
+  return trap_window16(l->job, l->job_size, l->names, ns, l->samples, a->count, w, h, step, maxval, l->place, l->text, l->text_size,
+                       l->text_len);
+}
+
+static int call_opened(const struct lent *l, struct trap_job *open) {
+  const struct asked *a = l->a;
+  uint32_t w = a->width, h = a->height, step = a->step, maxval = (uint32_t)a->maxval;
+  size_t ns = strlen(a->names);
+  if (a->bytes == 1)
+    return trap_open_window8(open, l->names, ns, l->samples, a->count, w, h, step, maxval, l->place, l->text, l->text_size, l->text_len);
+  return trap_open_window16(open, l->names, ns, l->samples, a->count, w, h, step, maxval, l->place, l->text, l->text_size, l->text_len);
+}
+
 /* Makes the call, and compares all that it did with the status, the text and the samples that are wanted. */
 static int is_right(struct thread *t, const struct asked *a, size_t job_size, int status, const struct told *told, const void *wanted) {
   int at_end = (int)from_to(&t->dice, 0, 1);
@@ -416,17 +459,12 @@ static int is_right(struct thread *t, const struct asked *a, size_t job_size, in
   char *text = put(&t->text, 0, text_size, at_end);
   const struct trap_place *place = a->place ? put(&t->place, a->place, sizeof *a->place, at_end) : 0;
   memset(text, CANARY, text_size);
-  uint32_t w = a->width, h = a->height, step = a->step, maxval = (uint32_t)a->maxval;
-  size_t ns = strlen(a->names);
-  int got = !place ? a->bytes == 1 ? trap_planes8(job, job_size, names, ns, samples, a->count, w, h, step, maxval, text, text_size, &text_len)
-                                   : trap_planes16(job, job_size, names, ns, samples, a->count, w, h, step, maxval, text, text_size, &text_len)
-            : a->bytes == 1
-                ? trap_window8(job, job_size, names, ns, samples, a->count, w, h, step, maxval, place, text, text_size, &text_len)
-                : trap_window16(job, job_size, names, ns, samples, a->count, w, h, step, maxval, place, text, text_size, &text_len);
+  struct lent lent = {a, job, job_size, names, samples, text, text_size, &text_len, place};
+  int got = !place ? call_page(&lent) : once_in(&t->dice, 2) ? call_window(&lent) : call_opened(&lent, &t->open);
   t->calls++, got ? t->refused++ : t->done++;
   size_t fits = text_len < text_size ? text_len : text_size;
   int is_told = !told || (text_len == told->size && !memcmp(text, told->text, fits));
-  int is_kept = !memcmp(samples, wanted, a->count * a->bytes) && !memcmp(job, t->sheet.job, job_size) && !memcmp(names, a->names, ns) &&
+  int is_kept = !memcmp(samples, wanted, a->count * a->bytes) && !memcmp(job, t->sheet.job, job_size) && !memcmp(names, a->names, strlen(a->names)) &&
                 (!place || !memcmp(place, a->place, sizeof *place)) && is_canary((unsigned char *)text + fits, (unsigned char *)text + text_size);
   int is_beside = is_around(&t->job) && is_around(&t->names) && is_around(&t->samples) && is_around(&t->text) && (!place || is_around(&t->place));
   if (got == status && is_told && is_kept && is_beside) return 1;
@@ -451,6 +489,7 @@ static int is_page_right(struct thread *t, int bytes, const char *names) {
   return is_right(t, &a, t->sheet.job_size, LIBTRAP_DONE, &told, t->wanted);
 }
 
+/* The halo of the job's bytes; and of the job, which is opened for the windows. */
 static int is_halo_right(struct thread *t) {
   const struct sheet *p = &t->sheet;
   uint32_t halo = 0;
@@ -459,7 +498,12 @@ static int is_halo_right(struct thread *t) {
   const char *job = put(&t->job, p->job, p->job_size, 1);
   int got = trap_halo(job, p->job_size, &halo, text, 64, &text_len);
   t->calls++, t->done++;
-  if (got == LIBTRAP_DONE && halo == halo_of(p) && !text_len && is_around(&t->text)) return 1;
+  uint32_t other = 0;
+  size_t other_len = 9;
+  got = got ? got : trap_open(job, p->job_size, &t->open, text, 64, &other_len);
+  got = got ? got : trap_open_halo(&t->open, &other);
+  int is_told = halo == halo_of(p) && other == halo && !text_len && !other_len;
+  if (got == LIBTRAP_DONE && is_told && is_around(&t->text) && is_around(&t->job)) return 1;
   return fprintf(stderr, "random: halo %u, and not %ld\n%.*s", halo, halo_of(p), (int)p->job_size, p->job), 0;
 }
 
@@ -471,7 +515,7 @@ struct along {
 
 static struct along along_of(struct dice *dice, int side, int halo, int *less) {
   struct along a;
-  a.core_from = (int)from_to(dice, 0, side - 1), a.core_to = (int)from_to(dice, a.core_from, side);
+  a.core_from = (int)from_to(dice, 0, side - 1), a.core_to = (int)from_to(dice, a.core_from + 1, side);
   a.from = a.core_from - halo - (int)from_to(dice, 0, 2), a.to = a.core_to + halo + (int)from_to(dice, 0, 2);
   if (a.from < 0) a.from = 0;
   if (a.to > side) a.to = side;
@@ -491,7 +535,7 @@ static int is_window_right(struct thread *t, int bytes, const char *names) {
   struct asked a = whole(t, bytes, names);
   a.left = x.from, a.top = y.from, a.width = x.to - x.from, a.height = y.to - y.from;
   a.step = a.width + (int)from_to(&t->dice, 0, STEP_MORE), a.count = (size_t)p->inks * a.height * a.step, a.place = &place;
-  if (once_in(&t->dice, 10)) place.core_width = (uint32_t)(a.width - (int)place.core_left + 1), is_short = 1;
+  if (once_in(&t->dice, 10)) place.core_width = once_in(&t->dice, 2) ? 0 : (uint32_t)(a.width - (int)place.core_left + 1), is_short = 1;
   fill_samples(t, &a);
   struct told told = {.size = 0};
   if (is_short) tell(&told, "call: Place\n");
@@ -537,6 +581,7 @@ static int is_case_right(struct thread *t) {
   int right = is_page_right(t, bytes, names) && is_halo_right(t);
   for (int k = 0; right && k < 6; k++) right = is_window_right(t, bytes, names);
   for (int k = 0; right && k < 2; k++) right = is_refusal_right(t, bytes, names);
+  trap_close(&t->open);
   return right;
 }
 

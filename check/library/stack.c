@@ -45,6 +45,21 @@ static void want(const char *call, trap_status status, trap_status wanted) {
   exit(1);
 }
 
+/* The exports for an open job. One whose bytes have a fault is not opened. */
+static void call_opened(size_t size, const char *listed, size_t count, trap_status wanted) {
+  struct trap_job handle = LIBTRAP_NO_JOB;
+  trap_status then = wanted == LIBTRAP_DONE ? LIBTRAP_DONE : LIBTRAP_CALL;
+  size_t len;
+  uint32_t halo;
+  want("trap_open", trap_open(job, size, &handle, text, sizeof text, &len), wanted);
+  want("trap_open_halo", trap_open_halo(&handle, &halo), then);
+  want("trap_open_window8",
+       trap_open_window8(&handle, listed, count, bytes, SAMPLES, WIDTH, HEIGHT, WIDTH, 255, &place, text, sizeof text, &len), then);
+  want("trap_open_window16",
+       trap_open_window16(&handle, listed, count, words, SAMPLES, WIDTH, HEIGHT, WIDTH, 255, &place, text, sizeof text, &len), then);
+  trap_close(&handle);
+}
+
 /* All exports, with so many bytes of the job; cut short it has a fault. */
 static void *call_all(void *given) {
   size_t size = *(size_t *)given, count = strlen(names), len;
@@ -61,6 +76,7 @@ static void *call_all(void *given) {
   want("trap_window16",
        trap_window16(told, size, listed, count, words, SAMPLES, WIDTH, HEIGHT, WIDTH, 255, &place, text, sizeof text, &len), wanted);
   want("trap_halo", trap_halo(told, size, &halo, text, sizeof text, &len), wanted);
+  call_opened(size, listed, count, wanted);
   want("trap_version", trap_version() == LIBTRAP_VERSION ? LIBTRAP_DONE : LIBTRAP_CALL, LIBTRAP_DONE);
   want("trap_cpu_supported", trap_cpu_supported() ? LIBTRAP_DONE : LIBTRAP_CALL, LIBTRAP_DONE);
   want("trap_strerror", strcmp(trap_strerror(LIBTRAP_MEMORY), "out of memory") ? LIBTRAP_CALL : LIBTRAP_DONE, LIBTRAP_DONE);

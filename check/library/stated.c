@@ -47,6 +47,11 @@ static trap_status trap_page(const char *job, const char *names, uint8_t *sample
                       &text_len);
 }
 
+/* A page of one ink, where the job or the samples may be null. */
+static trap_status trap_page_of(const char *job, size_t size, const char *name, uint8_t *samples) {
+  return trap_planes8(job, size, name, strlen(name), samples, WIDE * TALL, WIDE, TALL, WIDE, 255, text, LIBTRAP_TEXT_SIZE, &text_len);
+}
+
 static void halos(void) {
   static const struct { const char *width; unsigned halo; } tried[] = {{"2.08", 2}, {"4.17", 4}, {"3.08", 3}, {"2.5", 3}, {"2.4999", 2},
                                                                        {"0.1", 1}};
@@ -134,20 +139,21 @@ static void limits(void) {
   free(samples);
 }
 
-/* The four causes of "call: Place": the first two hide a fault of the job, and the others do not. */
+/* The causes of "call: Place": the first ones hide a fault of the job, and the others do not. */
 static void places(void) {
   static const struct { const char *what, *rest, *line; struct trap_place place; } tried[] = {
       {"off the sheet", "?", "call: Place\n", {WIDE, TALL, 1, 0, 0, 0, 4, 4}},
       {"a wide sheet", "?", "call: Place\n", {LIBTRAP_MOST_SHEET_SIDE + 1, TALL, 0, 0, 0, 0, 4, 4}},
       {"core outside", "?", "call: Place\n", {WIDE, TALL, 0, 0, 9, 0, 4, 4}},
+      {"a core without columns", "?", "call: Place\n", {WIDE, TALL, 0, 0, 0, 0, 0, 4}},
+      {"a core without rows", "?", "call: Place\n", {WIDE, TALL, 0, 0, 0, 0, 4, 0}},
       {"a fault of the job", "?", "job: UnknownOperator at 0\n", {WIDE, 100, 0, 1, 0, 1, WIDE, 6}},
       {"no halo", "<< /TrapWidth 0.06 >> settrapparams", "call: Place\n", {WIDE, 100, 0, 1, 0, 1, WIDE, 6}},
       {"off the grid", ZONE, "call: Place\n", {WIDE + 1, TALL, 1, 0, 11, 0, 1, TALL}},
       {"no zones", "", 0, {WIDE + 1, TALL, 1, 0, 11, 0, 1, TALL}},
       {"on the grid", ZONE, 0, {WIDE + 127, TALL, 127, 0, 11, 0, 1, TALL}},
       {"below off the grid", ZONE, "call: Place\n", {WIDE, TALL + 126, 0, 0, 0, 0, WIDE, 1}},
-      {"below on the grid", ZONE, 0, {WIDE, TALL + 127, 0, 0, 0, 0, WIDE, 1}},
-      {"an empty core", "", 0, {WIDE, TALL, 0, 0, 0, 0, 0, 0}}};
+      {"below on the grid", ZONE, 0, {WIDE, TALL + 127, 0, 0, 0, 0, WIDE, 1}}};
   for (size_t k = 0; k < sizeof tried / sizeof *tried; k++) {
     uint8_t samples[TALL * WIDE] = {0};
     const char *job = *tried[k].rest == '?' ? "?" : job_of(2540, tried[k].rest), *line = tried[k].line;
@@ -158,7 +164,37 @@ static void places(void) {
   }
 }
 
+/* A null pointer is the first fault, unless its size is 0. What is passed with it would be right. */
+static void nulls(void) {
+  const char *job = job_of(600, "");
+  uint8_t samples[TALL * WIDE] = {0};
+  struct trap_job handle = LIBTRAP_NO_JOB;
+  struct trap_place place = {WIDE, TALL, 0, 0, 0, 0, WIDE, TALL};
+  uint32_t halo = 0;
+  size_t size = strlen(job), len = 0;
+  expect("no job", trap_page_of(0, 1, "Black", samples), LIBTRAP_CALL, "call: Null\n");
+  expect("an empty job", trap_page_of(0, 0, "Black", samples), LIBTRAP_JOB, 0);
+  expect("no names", trap_planes8(job, size, 0, 5, samples, sizeof samples, WIDE, TALL, WIDE, 255, text, LIBTRAP_TEXT_SIZE, &text_len),
+         LIBTRAP_CALL, "call: Null\n");
+  expect("no samples", trap_page_of(job, size, "Black", 0), LIBTRAP_CALL, "call: Null\n");
+  expect("no place", trap_window8(job, size, "Black", 5, samples, sizeof samples, WIDE, TALL, WIDE, 255, 0, text, LIBTRAP_TEXT_SIZE,
+                                  &text_len), LIBTRAP_CALL, "call: Null\n");
+  expect("no halo", trap_halo(job, size, 0, text, LIBTRAP_TEXT_SIZE, &text_len), LIBTRAP_CALL, "call: Null\n");
+  expect("no handle", trap_open(job, size, 0, text, LIBTRAP_TEXT_SIZE, &text_len), LIBTRAP_CALL, "call: Null\n");
+  expect("no handle of a window", trap_open_window8(0, "Black", 5, samples, sizeof samples, WIDE, TALL, WIDE, 255, &place, text,
+                                                    LIBTRAP_TEXT_SIZE, &text_len), LIBTRAP_CALL, "call: Null\n");
+  expect("a handle that is not open", trap_open_window8(&handle, "?", 1, samples, 1, 0, 0, 0, 0, &place, text, LIBTRAP_TEXT_SIZE,
+                                                        &text_len), LIBTRAP_CALL, "call: Handle\n");
+  expect_number("no text", trap_halo(job, size, &halo, 0, 9, &len), LIBTRAP_CALL);
+  expect_number("the length of its line", (long long)len, 11);
+  expect_number("no length", trap_halo(job, size, &halo, text, LIBTRAP_TEXT_SIZE, 0), LIBTRAP_CALL);
+  expect_number("no text of no size", trap_halo(job, size, &halo, 0, 0, &len), LIBTRAP_DONE);
+  expect_number("no open halo", trap_open_halo(0, &halo), LIBTRAP_CALL);
+  trap_close(0);
+}
+
 int main(void) {
+  nulls();
   halos();
   half_tints();
   masks();

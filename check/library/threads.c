@@ -1,6 +1,6 @@
 /* SPDX-License-Identifier: Apache-2.0 */
-/* threads [PAGES]: eight threads trap pages at once, each its own, by the calls of a page and of a window; each has to come out as
- * it does alone. */
+/* threads [PAGES]: eight threads trap pages at once, each its own, by the calls of a page, of a window, and of a window by an open job,
+ * one for each thread; each has to come out as it does alone. */
 #include <pthread.h>
 #include <stdio.h>
 #include <stdlib.h>
@@ -38,7 +38,10 @@ static void draw(uint16_t *samples, unsigned page) {
 
 static const char *const told = job, *const listed = names;
 
-static trap_status by_words(struct answer *answer, const struct trap_place *place) {
+static trap_status by_words(struct answer *answer, const struct trap_place *place, struct trap_job *handle) {
+  if (handle)
+    return trap_open_window16(handle, listed, sizeof names - 1, answer->samples, SAMPLES, WIDTH, HEIGHT, WIDTH, 255, place,
+                              answer->text, sizeof answer->text, &answer->text_len);
   if (!place)
     return trap_planes16(told, sizeof job - 1, listed, sizeof names - 1, answer->samples, SAMPLES, WIDTH, HEIGHT, WIDTH, 255,
                          answer->text, sizeof answer->text, &answer->text_len);
@@ -46,11 +49,13 @@ static trap_status by_words(struct answer *answer, const struct trap_place *plac
                        answer->text, sizeof answer->text, &answer->text_len);
 }
 
-static trap_status by_bytes(struct answer *answer, const struct trap_place *place) {
+static trap_status by_bytes(struct answer *answer, const struct trap_place *place, struct trap_job *handle) {
   uint8_t bytes[SAMPLES];
   for (int k = 0; k < SAMPLES; k++) bytes[k] = (uint8_t)answer->samples[k];
   trap_status status =
-      place ? trap_window8(told, sizeof job - 1, listed, sizeof names - 1, bytes, SAMPLES, WIDTH, HEIGHT, WIDTH, 255, place,
+      handle  ? trap_open_window8(handle, listed, sizeof names - 1, bytes, SAMPLES, WIDTH, HEIGHT, WIDTH, 255, place, answer->text,
+                                  sizeof answer->text, &answer->text_len)
+      : place ? trap_window8(told, sizeof job - 1, listed, sizeof names - 1, bytes, SAMPLES, WIDTH, HEIGHT, WIDTH, 255, place,
                            answer->text, sizeof answer->text, &answer->text_len)
             : trap_planes8(told, sizeof job - 1, listed, sizeof names - 1, bytes, SAMPLES, WIDTH, HEIGHT, WIDTH, 255, answer->text,
                            sizeof answer->text, &answer->text_len);
@@ -58,19 +63,30 @@ static trap_status by_bytes(struct answer *answer, const struct trap_place *plac
   return status;
 }
 
-/* Even pages are held as 16-bit numbers, odd ones as bytes. Of each four, two are windows of a sheet, with the halo that is told. */
-static void trap_page(struct answer *answer, int page) {
+/* Even pages are held as 16-bit numbers, odd ones as bytes. Of each eight, two are windows of a sheet, with the halo that is told, and
+ * two are such windows by the open job. */
+static void trap_page(struct answer *answer, int page, struct trap_job *handle) {
   draw(answer->samples, page);
   uint32_t halo = 0;
   answer->status = trap_halo(told, sizeof job - 1, &halo, answer->text, sizeof answer->text, &answer->text_len);
   if (answer->status) return;
   struct trap_place window = {1000, 1000, 300, 400, halo, halo, WIDTH - 2 * halo, HEIGHT - 2 * halo};
   const struct trap_place *place = page / 2 % 2 ? &window : 0;
-  answer->status = page % 2 ? by_bytes(answer, place) : by_words(answer, place);
+  if (!place || page / 4 % 2) handle = 0;
+  answer->status = page % 2 ? by_bytes(answer, place, handle) : by_words(answer, place, handle);
+}
+
+/* Traps every so many of the pages, by an open job of its own. */
+static void trap_pages(struct answer *answers, int first, int step) {
+  struct trap_job handle = LIBTRAP_NO_JOB;
+  struct answer *answer = &answers[first];
+  if (trap_open(told, sizeof job - 1, &handle, answer->text, sizeof answer->text, &answer->text_len)) return;
+  for (int page = first; page < pages; page += step) trap_page(&answers[page], page, &handle);
+  trap_close(&handle);
 }
 
 static void *walk(void *first) {
-  for (int page = (int)(size_t)first; page < pages; page += THREADS) trap_page(&together[page], page);
+  trap_pages(together, (int)(size_t)first, THREADS);
   return 0;
 }
 
@@ -81,7 +97,7 @@ int main(int count, char **words) {
   for (size_t k = 0; k < THREADS; k++)
     if (pthread_create(&threads[k], 0, walk, (void *)k)) return 2;
   for (int k = 0; k < THREADS; k++) pthread_join(threads[k], 0);
-  for (int page = 0; page < pages; page++) trap_page(&alone[page], page);
+  trap_pages(alone, 0, 1);
   for (int page = 0; page < pages; page++) {
     uint16_t before[SAMPLES];
     draw(before, page);

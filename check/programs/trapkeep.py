@@ -1,5 +1,5 @@
 # SPDX-License-Identifier: Apache-2.0
-"""trapkeep: pages under black: what its tests run on."""
+"""trapkeep: pages under black, or with white under colours: what its tests run on."""
 from faults.case import case, PAGE
 from lines import GATHER_LINES, WRITE_LINES
 from maker import jobs, pictures
@@ -10,7 +10,10 @@ from samples import outs, RICH, SHOP
 LINES = ["", "usage", "untold", "keepaway: TooWide", *GATHER_LINES, *WRITE_LINES]
 
 # The runs in which each request for memory is refused.
-REFUSED = [(["--rich-black", "1", "job", "report", *outs(files)], files) for files in (RICH, SHOP)]
+REFUSED = [
+    *((["--rich-black", "1", "job", "report", *outs(files)], files) for files in (RICH, SHOP)),
+    (["--underprint", "Cyan=1", "job", "report", *outs(RICH)], RICH),
+]
 
 # The run in which calls of the system fail.
 KEEP = case("trapkeep", ["--rich-black", "1", *PAGE[1:]], RICH, ["c.out", "m.out", "report"], ["m.out"])
@@ -18,7 +21,7 @@ WRITING = FAULTS = [KEEP]
 
 
 def make(rng):
-    """A page under black, mostly shapes of several inks on a lighter ground."""
+    """A page for one of the two uses, mostly shapes of several inks on a lighter ground."""
     files = {}
     if rng.random() < 0.3:
         picture, job, inputs = one_page(rng, files)
@@ -33,7 +36,7 @@ def make(rng):
 
 
 def keep_options(rng, names):
-    """The options of rich black; now and then of underprints, of none or of both."""
+    """The options of one use; now and then of none or of both."""
     some = rng.sample(names, rng.randint(1, min(2, len(names))))
     black = [["--rich-black", points(rng, 100)]]
     if rng.random() < 0.5:
@@ -41,7 +44,7 @@ def keep_options(rng, names):
     if rng.random() < 0.3:
         black += [["--except", name] for name in some]
     white = [["--underprint", "%s=%s" % (name, points(rng, 100))] for name in some]
-    options = black if rng.random() < 0.95 else white
+    options = black if rng.random() < 0.6 else white
     if rng.random() < 0.02:
         options = rng.choice([[], black + white, black[1:], black + black, white + white])
     rng.shuffle(options)

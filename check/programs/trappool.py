@@ -2,7 +2,7 @@
 """trappool: a list of jobs: what its tests run on."""
 from faults.case import Case, OLD, OTHER_JOB
 from lines import GATHER_LINES, WRITE_LINES
-from maker.cases import FOLDER, input_name, joined, one_page, output_name, outputs, with_bad_words, workers_word
+from maker.cases import FOLDER, FULL, input_name, joined, one_page, output_name, outputs, with_bad_words, workers_word
 from samples import PAIR
 
 # What random cases are to meet.
@@ -87,8 +87,10 @@ def list_file(rng, lines):
 def bad_line(rng, lines, place):
     line = lines[place]
     words = line.split(b" ")
+    # With a byte more /dev/full would be the name of a file that may be created.
+    returned = line if line.endswith(FULL.encode()) else line + b"\r"
     return rng.choice([
-        b"", b" " + line, line + b" ", line.replace(b" ", b"  ", 1), line.replace(b" ", b"\t", 1), line + b"\r",
+        b"", b" " + line, line + b" ", line.replace(b" ", b"  ", 1), line.replace(b" ", b"\t", 1), returned,
         b" ".join(words[:2]), line + b" \xff:a:b", line + b" a:b", line + b" C:a:" + words[1], line + b" " + words[2],
         line + b" Z:a:b Z:a:c", rng.choice(lines), line + b" " + b" ".join(b"N%d:a:q%d" % (n, n) for n in range(16)),
         b"\0" + line, line + b"\0", b"-- " + line, b"j r\xc3\xa9 C:p:o\xc3\xa9",

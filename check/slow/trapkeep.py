@@ -20,14 +20,6 @@ Uses = namedtuple("Uses", "width limit spared underprints")
 
 
 def run(words, outside):
-    """The program as it is: without underprints."""
-    if "--underprint" in words:
-        raise refusals.usage("trapkeep")
-    run_all(words, outside)
-
-
-def run_all(words, outside):
-    """The program with both uses."""
     try:
         uses, rest = options_of(words)
         job, report_name, names, inputs, outputs = files_of(rest)

@@ -3,7 +3,7 @@
  * files of one byte a sample, and DPI is the job's resolution.
  *
  * Each row is read once, as a RIP renders it once. The rows that a band shares with the next one, its halo, are kept as they were read:
- * a band is trapped in a copy. Each band's core is written at once, so a refusal in a later band leaves the rows before it in the files.
+ * a band is trapped in a copy. The job is opened once for all bands. Each band's core is written at once, so a refusal in a later band leaves the rows before it in the files.
  * A sheet that is wider than 16,384 pixels is cut into tiles, as in tiles.c. It ends with the library's status, and with 1 if a file
  * cannot be read or written. */
 #include "plates.h"
@@ -15,7 +15,7 @@ enum { BAND = 64 }; /* rows of a core; the memory is that of BAND and two halos,
 
 /* A sheet on its way from its files to others, with the rows that are held of it. */
 struct sheet {
-  struct bytes job;
+  struct trap_job job;
   char names[LIBTRAP_MOST_PLANES * 65 + 1], *named[LIBTRAP_MOST_PLANES], *outs[LIBTRAP_MOST_PLANES];
   FILE *from[LIBTRAP_MOST_PLANES], *to[LIBTRAP_MOST_PLANES];
   int plates;
@@ -84,9 +84,9 @@ static trap_status trap_band(struct sheet *sheet, unsigned top) {
   for (int c = 0; c < sheet->plates; c++)
     memcpy(window_row(sheet, c, rows.count, 0), row_of(sheet, c, rows.first), (size_t)rows.count * sheet->width);
   struct trap_place place = {sheet->width, sheet->height, 0, rows.first, 0, rows.core, sheet->width, rows.core_count};
-  trap_status status = trap_window8(sheet->job.at, sheet->job.size, sheet->names, strlen(sheet->names), sheet->window,
-                                    (size_t)sheet->plates * rows.count * sheet->width, sheet->width, rows.count, sheet->width,
-                                    sheet->maxval, &place, sheet->text, sizeof sheet->text - 1, &sheet->text_len);
+  trap_status status = trap_open_window8(&sheet->job, sheet->names, strlen(sheet->names), sheet->window,
+                                         (size_t)sheet->plates * rows.count * sheet->width, sheet->width, rows.count, sheet->width,
+                                         sheet->maxval, &place, sheet->text, sizeof sheet->text - 1, &sheet->text_len);
   if (status != LIBTRAP_DONE) return status;
   write_core(sheet, rows);
   sheet->text[sheet->text_len] = 0;
@@ -104,6 +104,14 @@ static trap_status trap_sheet(struct sheet *sheet) {
   for (unsigned top = 0; top < sheet->height && status == LIBTRAP_DONE; top += BAND) status = trap_band(sheet, top);
   free(sheet->rendered), free(sheet->window);
   return status;
+}
+
+/* Opens the job, and asks for its halo. */
+static trap_status open_job(struct sheet *sheet, const char *name) {
+  struct bytes job = whole(name);
+  trap_status status = trap_open(job.at, job.size, &sheet->job, sheet->text, sizeof sheet->text, &sheet->text_len);
+  free(job.at);
+  return status == LIBTRAP_DONE ? trap_open_halo(&sheet->job, &sheet->halo) : status;
 }
 
 static void open_all(struct sheet *sheet, char **words) {
@@ -125,19 +133,19 @@ static void close_all(struct sheet *sheet) {
 }
 
 int main(int count, char **words) {
-  static struct sheet sheet;
+  static struct sheet sheet = {.job = LIBTRAP_NO_JOB};
   int dpi = count > 1 ? atoi(words[1]) : 0;
   sheet.plates = count - 4;
   if (sheet.plates < 1 || sheet.plates > LIBTRAP_MOST_PLANES || dpi < 1)
     return fprintf(stderr, "usage: bands DPI JOB REPORT NAME:IN:OUT ..\n"), 2;
-  sheet.grid = grid_of(dpi), sheet.job = whole(words[2]);
-  trap_status status = trap_halo(sheet.job.at, sheet.job.size, &sheet.halo, sheet.text, sizeof sheet.text, &sheet.text_len);
+  sheet.grid = grid_of(dpi);
+  trap_status status = open_job(&sheet, words[2]);
   if (status == LIBTRAP_DONE) {
     open_all(&sheet, words + 4);
     status = trap_sheet(&sheet);
     close_all(&sheet);
   }
-  free(sheet.job.at);
+  trap_close(&sheet.job);
   if (status != LIBTRAP_DONE) return fwrite(sheet.text, 1, sheet.text_len, stderr), status;
   FILE *report = begun(words[3]);
   print_sums(report, &sheet.sums, sheet.width, sheet.height, sheet.maxval, sheet.plates, sheet.named);

@@ -145,6 +145,24 @@ def test_small_type_reversed_out_of_several_inks(size: str, tints: tuple[int, ..
     assert not is_found or "5.0 pt is reversed out of Cyan + Magenta + Yellow + Black" in found["small-reverse"]
 
 
+@pytest.mark.parametrize("white, colour, size, is_found", [
+    ((10, 46, 3, 5), (10, 46, 3, 5), "5", True), ((6, 40, 20, 16), (10, 46, 3, 5), "5", False),
+    ((10, 46, 3, 5), (10, 46, 3, 5), "9", False), ((0, 0, 0, 0), (10, 46, 3, 5), "5", False),
+    ((0, 0, 144, 72), (0, 0, 144, 72), "5", False)])
+def test_small_type_over_a_white_of_its_shape(white: tuple[int, ...], colour: tuple[int, ...], size: str, is_found: bool) -> None:
+    """White below a glyph and nowhere beside it is named, with its place; a panel, larger type and a plate without white are not."""
+    plates, inks = page((*colour, (0, 100)))
+    left, upper, width, height = white
+    plates.arrays[5][upper:upper + height, left:left + width] = 0
+    book = InkBook(Settings(role=("Lack=white",)), None)
+    inks = tuple(book.ink(Separation(ink.colorant, b"", None, ink.name), bool((array < 255).any()))
+                 for ink, array in zip(inks, plates.arrays))
+    found = list(content.white_type_findings(trace_of(*type_of("DeviceCMYK", "0 1 0 0", size)), plates, inks, INFO, Settings(), 1))
+    assert [one.kind for one in found] == ["type-on-white"] * is_found
+    for one in found:
+        assert one.level == "warning" and "type of 5.0 pt at 4, 8 mm is over Lack of the same shape" in one.text
+
+
 # What the file says
 
 def saved(path: Path, change, **options) -> str:

@@ -187,6 +187,29 @@ def test_changes_at_one_to_one_take_a_request_each_and_are_exact(desk):
         assert np.array_equal(pixels, colours_of(page)[top:top + height, left:left + width])
 
 
+def test_a_slider_is_pulled(desk):
+    """The page follows a slider as long as it is held, and the slider stays under the hand."""
+    desk.open()
+    desk.close_up()
+    desk.settle()
+    slider, widths = desk.browser.find_element(By.ID, "set-TrapWidth-slider"), []
+    ActionChains(desk.browser).click_and_hold(slider).perform()
+    for _ in range(4):
+        before = desk.browser.execute_script("return desk.app.page.version")
+        # Headless Chromium takes longer steps for no pull, on any page.
+        ActionChains(desk.browser).move_by_offset(4, 0).perform()
+        desk.wait(f"return desk.app.page.version > {before} && !desk.app.isSending && !desk.app.waiting")
+        widths.append(desk.browser.execute_script("return desk.app.page.settings.TrapWidth"))
+    ActionChains(desk.browser).release().perform()
+    assert widths == sorted(set(widths))
+    desk.settle()
+    has_last = f"return Math.round(1e4 * document.getElementById('set-TrapWidth%s').value) === {widths[-1]}"
+    desk.wait(has_last % "-slider")
+    desk.set("set-TrapWidth", 5_000)
+    desk.wait("return document.getElementById('status').classList.contains('alert')")
+    desk.wait(has_last % "")
+
+
 def test_gaps_are_marked_by_a_tick_and_counted(desk):
     """A plate is moved by its slider: green pixels, as many as the line below says; none once the tick is off."""
     desk.open()

@@ -109,6 +109,12 @@ newpath
 settrapzone
 
 showpage""")
+NEW_PLACE = """% Within images nothing is trapped, but at what is drawn above them (--trap-images traps there too):
+<< /Enabled false >> settrapparams
+newpath
+52.000 52.000 moveto 76.000 0 rlineto 0 36.000 rlineto -76.000 0 rlineto
+settrapzone
+"""
 PLACES = {0.1: [Rect(20, 20, 28, 24)]}
 SIZE = (300.0, 200.0)
 
@@ -116,12 +122,14 @@ SIZE = (300.0, 200.0)
 @pytest.mark.parametrize("off", [(), ("trim",), ("thin",), ("images",), ("trim", "thin", "images")])
 @pytest.mark.parametrize("zones", [(), (PANEL,), (PANEL, OVER)])
 @pytest.mark.parametrize("thin", [None, "% Thin strokes:\n"])
-def test_rules_that_are_off_come_out_as_they_went_in(off, zones, thin):
+@pytest.mark.parametrize("images", [None, "", NEW_PLACE])
+def test_rules_that_are_off_come_out_as_they_went_in(off, zones, thin, images):
     """What the press room wrote stays as a comment, and comes back byte for byte."""
-    edits = Edits({"TrapWidth": 5_000}, {}, zones, frozenset(off), None if "thin" in off else thin)
+    edits = Edits({"TrapWidth": 5_000}, {}, zones, frozenset(off), None if "thin" in off else thin,
+                  images=None if "images" in off else images)
     text = apply_edits(MADE, edits)
     assert take_apart(text) == (MADE, edits)
-    assert rules_of(MADE, edits, False) == {one: one not in off for one in ("trim", "thin", "images")}
+    assert rules_of(MADE, edits, ()) == {one: one not in off for one in ("trim", "thin", "images")}
 
 
 def test_a_rule_that_is_off_has_no_zones():
@@ -135,6 +143,15 @@ def test_a_rule_that_is_off_has_no_zones():
     assert found("trim") == [(-1, 3_000, True), thin, images, over]
     assert found("thin") == [page, images, over]
     assert found("images") == [page, thin, over]
+
+
+def test_zones_of_images_are_replaced_and_what_goes_over_them_stays_above():
+    """The job's own place is a comment then; zones over images, and what they find in force, are as before."""
+    zones = read_job(apply_edits(MADE, Edits({}, {}, (OVER,), images=NEW_PLACE))).zones[1:]
+    assert [(zone.subpaths[0][0][0] // 10_000, zone.parameters.enabled) for zone in zones] == [
+        (10, True), (20, True), (52, False), (10, False)]
+    without = read_job(apply_edits(PLAIN, Edits(images=NEW_PLACE))).zones
+    assert [zone.parameters.enabled for zone in without] == [False, False]
 
 
 def test_zones_of_thin_strokes_are_those_of_the_press_room():

@@ -165,6 +165,31 @@ def test_memory_does_not_grow_with_the_threads_that_draw(tmp_path):
         found.process.communicate()
 
 
+def test_bands_of_a_view_are_those_of_the_page(tmp_path):
+    """A part that several threads trap: its changed pixels over the picture before are the picture after, at once and
+    when the page is done."""
+    make_large_page(tmp_path / "jobs" / "large" / "page-001")
+    with open_client(tmp_path / "jobs") as client:
+        key = client.get("/api/jobs").json()[0]["pages"][0]["id"]
+        page = client.get(f"/api/pages/{key}").json()
+        edits = {**page["edits"], "settings": {"TrapWidth": 4_000}}
+        assert client.post(f"/api/pages/{key}/edits", json={"version": 1, "edits": edits}).status_code == 200
+        part = {"left": 100, "top": 301, "width": 700, "height": 601, "inks": 13}
+        live, drawn = view(client, key, **part), over_before(client, key, part)
+        wait_until_shown(client, key)
+        shown = view(client, key, **part)
+    assert np.array_equal(live, drawn) and np.array_equal(live, shown)
+
+
+def over_before(client, key, part):
+    """The pixels of a part that traps change, over the picture before."""
+    found, changes = view(client, key, **part, mode="before").copy(), view(client, key, **part, delta=True)
+    places, colours = np.split(changes, 2)
+    assert np.all(places[1:] > places[:-1])
+    found[places] = colours
+    return found
+
+
 def make_large_page(folder):
     """A page of 2,000 by 1,500 pixels in four inks, a photograph of noise."""
     folder.mkdir(parents=True)
@@ -262,6 +287,7 @@ def test_random_jobs_of_check_are_those_of_the_command(tmp_path):
             edited += 1
             whole = {"left": 0, "top": 0, "width": page["width"], "height": page["height"], "inks": 65_535}
             live = view(client, key, **whole)
+            assert np.array_equal(live, over_before(client, key, whole)), listed["number"]
             wait_until_shown(client, key)
             assert np.array_equal(live, view(client, key, **whole)), listed["number"]
             assert files_of(folder) == trapped_by_command(folder, tmp_path / f"again-{listed['number']}")

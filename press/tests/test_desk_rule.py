@@ -92,7 +92,7 @@ def answer_on(whole, picture, job, pixel):
 def test_a_statement_is_found_where_it_stands():
     """Offsets of statements, operands included; comments belong to none."""
     text = b"%!PS\n<< /HWResolution [72 72] >> setpagedevice % a comment\n1 2 moveto settrapzone showpage"
-    found = [(one.operator, text[one.start:one.end]) for one in job_language.statements(text)]
+    found = [(one.operator, text[one.start:one.end]) for one in job_language.parse(text).statements]
     assert found == [("setpagedevice", b"<< /HWResolution [72 72] >> setpagedevice"), ("moveto", b"1 2 moveto"),
                      ("settrapzone", b"settrapzone"), ("showpage", b"showpage")]
 

@@ -780,24 +780,41 @@ def test_a_restart_takes_up_an_upload(folder):
 
 
 def test_tables_of_an_edited_page_make_the_same_page(client, folder, tmp_path):
-    """Beside the PDF press/plates reads them: zones and inks of the job that it makes are those of the editor, thin
-    strokes too."""
+    """Beside the PDF press/plates reads them: zones and inks of the job that it makes are those of the editor, those of
+    thin strokes and of images too, which depend on the widths. Back at the first settings the job is the first one."""
     job = wait_for_job(client, sent_label(client))
     key, page = job["pages"][0]["id"], folder / job["id"] / "page-001"
-    found = client.get(f"/api/pages/{key}").json()
-    kind, height = {"Label_Red": {"density": 9_000, "kind": "Opaque"}}, found["height"]
+    first, height = (page / "page.job").read_bytes(), client.get(f"/api/pages/{key}").json()["height"]
+    kind, own = {"Label_Red": {"density": 9_000, "kind": "Opaque"}}, images_of(read_job(first))
     panel = {"name": "panel", "points": [[100, 100], [900, 100], [900, height - 100]], "settings": {"TrapWidth": 2_000},
              "overImages": False}
-    edit(client, key, settings={"TrapWidth": 4_000}, inks=kind, zones=[panel])
-    wait_until_shown(client, key)
-    zipfile.ZipFile(io.BytesIO(fetched(client, key, "tables").content)).extractall(tmp_path)
-    shutil.copyfile(folder / job["id"] / "label.pdf", tmp_path / "label.pdf")
-    subprocess.run([str(Path(tools.PRESS) / "plates"), str(tmp_path / "label.pdf"), str(tmp_path / "made")], check=True)
-    ours, theirs = (read_job((place / "page.job").read_bytes()) for place in (page, tmp_path / "made"))
-    assert theirs.inks == ours.inks
-    found, wanted = ([one for one in job.zones if one.parameters.enabled] for job in (theirs, ours))
-    assert len(found) > 3 and [one.parameters for one in found] == [one.parameters for one in wanted]
-    assert [one.subpaths for one in found] == [one.subpaths for one in wanted]
+    for name, edits in (("zone", {"settings": {"TrapWidth": 4_000}, "inks": kind, "zones": [panel]}),
+                        ("wide", {"settings": {"TrapWidth": 12_000}})):
+        live = edit(client, key, **edits).json()
+        at_once = images_of(read_job((page / "page.job").read_bytes()))
+        assert "thin strokes" in live["lacks"] and own != at_once
+        wait_until_shown(client, key)
+        made = tmp_path / name
+        zipfile.ZipFile(io.BytesIO(fetched(client, key, "tables").content)).extractall(made)
+        shutil.copyfile(folder / job["id"] / "label.pdf", made / "label.pdf")
+        subprocess.run([str(Path(tools.PRESS) / "plates"), str(made / "label.pdf"), str(made / "page")], check=True)
+        ours, theirs = (read_job((place / "page.job").read_bytes()) for place in (page, made / "page"))
+        assert theirs.inks == ours.inks and len(theirs.zones) > 3 and at_once == images_of(ours)
+        assert trapped_zones(theirs) == trapped_zones(ours)
+        assert images_of(theirs) == images_of(ours)
+    edit(client, key)
+    assert wait_until_shown(client, key) and (page / "page.job").read_bytes() == first
+
+
+def trapped_zones(job):
+    """The zones of a job that are trapped."""
+    return [one for one in job.zones if one.parameters.enabled]
+
+
+def images_of(job):
+    """The paths of the last zone of a job, which is that of images if it is not trapped."""
+    assert not job.zones[-1].parameters.enabled
+    return job.zones[-1].subpaths
 
 
 def test_an_upload_that_stalls_is_given_up():

@@ -310,12 +310,12 @@ def test_commands_end_well(reader: Reader, built: None, document: str) -> None:
 def test_calls_in_c_compile(tmp_path: Path) -> None:
     """The calls of docs/LIBRARY.md, within a function that has what they speak of."""
     texts = [block.text for block in blocks_of("docs/LIBRARY.md") if block.kind == "c"]
-    assert len(texts) == 2
+    assert len(texts) == 3
     body = "\n".join(texts).replace("#include <trap.h>\n", "")
     (tmp_path / "call.c").write_text(
         "#include <stdio.h>\n#include <string.h>\n#include <trap.h>\n"
         "int call(const uint8_t *job, size_t job_size, uint8_t *planes, uint32_t width, uint32_t height, uint32_t step,\n"
-        "         uint8_t *window, size_t count, size_t names_size) {\n" + body + "\nreturn status; }\n")
+        "         uint32_t maxval, uint8_t *window, size_t count, size_t names_size) {\n" + body + "\nreturn status; }\n")
     done = subprocess.run(["cc", "-fsyntax-only", f"-I{TOP / 'library'}", "call.c"], cwd=tmp_path, capture_output=True, text=True, check=False)
     assert done.returncode == 0, done.stderr
 
@@ -324,7 +324,7 @@ def test_calls_in_c_compile(tmp_path: Path) -> None:
 def test_calls_in_python_run(repository: Path, environment: dict[str, str]) -> None:
     """The calls of docs/LIBRARY.md and of the package's README, on planes of a small page."""
     texts = [block.text for document in ("docs/LIBRARY.md", "python/README.md") for block in blocks_of(document) if block.kind == "python"]
-    assert len(texts) == 3
+    assert len(texts) == 4
     done = subprocess.run(["library/build"], cwd=repository, env=environment, capture_output=True, text=True, check=False)
     if done.returncode != 0:
         pytest.skip("the library is not built")

@@ -105,6 +105,21 @@ def test_inks_are_drawn_back_under_black(tmp_path: Path) -> None:
     assert proof.keepaway_text(page) == f"<p>Drawn back by 0.23 pt under rich black: Cyan on {changed} pixels.</p>"
 
 
+def test_the_proof_maps_coloured_fringes(tmp_path: Path) -> None:
+    """Around the square of rich black cyan can show as separated, and nowhere once it is drawn back; a page without rich black
+    has no map."""
+    page = rich_page(tmp_path / "page")
+    engine.trap(page, settings_of())
+    text = proof.page_text(page)
+    counts = json.loads(Path(page.file("trapped", "report.json")).read_text())["misregister"]
+    # A ring of a sample within the edge and one beyond it but for its corners, each plate being off by one.
+    assert (counts["radius"], counts["fringes_before"], counts["fringes_after"]) == (1, 30 * 30 - 26 * 26 - 4, 0)
+    assert "Where colour can show next to black" in text and "0 samples on the plates as made, 220 as separated" in text
+    plain = write_page(tmp_path / "plain", {ink_of("Cyan"): block(0.6), ink_of("Black"): block(1, slice(0, 4))})
+    engine.trap(plain, settings_of())
+    assert "next to black" not in proof.page_text(plain)
+
+
 def test_the_proof_of_thin_strokes(tmp_path: Path) -> None:
     """The proof says that traps are narrower at thin strokes, if the page has any; nothing of keepaway before the page is trapped."""
     page = rich_page(tmp_path / "page")
@@ -250,6 +265,28 @@ def test_widths_below_half_a_pixel(tmp_path: Path, monkeypatch: pytest.MonkeyPat
     monkeypatch.setattr(keepaway, "inks_under_black", lambda *_: pytest.fail("the plates were looked at"))
     engine.trap(page, settings_of("0.0599pt"))
     assert report_of(page) == {"width": 0.0599}
+
+
+# Underprint
+
+def test_whites_are_drawn_back_under_the_colours(tmp_path: Path) -> None:
+    """A white of the colour's shape ends two pixels before the colour does, on the trapped plate alone; no trap and no other plate changes."""
+    page = write_page(tmp_path / "page", {ink_of("Cyan"): block(1), ink_of("White", "white"): block(1)})
+    assert engine.trap(page, settings_of()).warnings == ()
+    wanted = block(1, slice(INSIDE.start + EDGE, INSIDE.stop - EDGE))
+    assert (plate(page, "White") == wanted).all() and (plate(page, "White", ".") == block(1)).all()
+    assert (plate(page, "Cyan") == block(1)).all() and not Path(page.file("trapped", "keepaway")).exists()
+    said = {"width": 0.2268, "underprint": {"covered": 28 * 28, "changed": {"White": 28 * 28 - 24 * 24}}}
+    assert report_of(page) == said and read_record(page.path)["pages"]["1"]["keepaway"] == said
+
+
+def test_white_that_goes_on_beyond_the_colours(tmp_path: Path) -> None:
+    """A white stays where it goes on beyond the colour, under varnish too, and with --no-keepaway."""
+    inks = {ink_of("Cyan"): block(1, slice(16, 32)), ink_of("Foil", kind="Transparent"): block(1), ink_of("White", "white"): block(1)}
+    page = write_page(tmp_path / "page", inks)
+    for width, said in ((WIDTH, {"width": 0.2268, "underprint": {"covered": 16 * 16, "changed": {"White": 0}}}), ("off", {"width": 0.0})):
+        engine.trap(page, settings_of(width))
+        assert (plate(page, "White") == block(1)).all() and report_of(page) == said
 
 
 # The program

@@ -58,7 +58,7 @@ def test_functions_are_those_of_the_header() -> None:
                 re.findall(r"^(?:static inline )?([a-z_0-9]+|const char \*) ?(trap_\w+)\(([^)]*)\)(?:;| \{)", header, re.M)}
     shown = {name: (kind.strip('"'), re.findall(r'^\.Fa "(.*)"$', arguments, re.M))
              for kind, name, arguments in re.findall(r"^\.Ft (.*)\n\.Fo (\w+)\n((?:\.Fa .*\n)+)\.Fc$", page, re.M)}
-    shown |= {name: (kind.strip('"'), [arguments.strip('"')])
+    shown |= {name: (kind.strip('"'), re.findall(r'"([^"]*)"', arguments) or [arguments])
               for kind, name, arguments in re.findall(r"^\.Ft (.*)\n\.Fn (\w+) (.*)$", page, re.M)}
-    assert shown == declared and len(shown) == 8
+    assert shown == declared and len(shown) == 13
     assert set(re.findall(r"^\.Nm (\w+)", page, re.M)) == set(declared)

@@ -24,8 +24,12 @@ def trapped_file(room: Room, path: Path, *options: str) -> tuple[PageFolder, np.
     room.goes("plates", path, "page", *options)
     room.goes("trap", "page")
     page = PageFolder.read(str(room / "page"))
-    before, after = (np.stack([255 - array for array in page.plates(done).arrays]) for done in (False, True))
-    return page, before, after
+    return page, tints_of(page, False), tints_of(page, True)
+
+
+def tints_of(page: PageFolder, done: bool) -> np.ndarray:
+    """The tints of a page by plate, before trapping or after."""
+    return np.stack([255 - array for array in page.plates(done).arrays])
 
 
 def own_of_blue(before: np.ndarray, after: np.ndarray) -> float:
@@ -114,11 +118,32 @@ def film_that_shows(page: PageFolder, before: np.ndarray, after: np.ndarray, by:
 
 
 def test_white_spreads_under_colours(room: Room, built: None) -> None:
-    """White that is knocked out of a colour is trapped as the lightest ink: film that shows falls to a thirteenth."""
+    """White that is knocked out of a colour is trapped as the lightest ink: film that shows falls to a thirteenth. Keepaway opens
+    a few pixels at corners where colour, white and film meet (docs/DECISIONS.md)."""
     page, before, after = trapped(room, "label-white-varnish", "--preset", "offset")
     white = [ink.name for ink in page.inks].index("White_Underprint")
     assert page.inks[white].role == "white" and int((before[white] < after[white]).sum()) > 1000
-    assert film_that_shows(page, before, before, 2) == 18_837 and film_that_shows(page, before, after, 2) <= 1_449
+    assert film_that_shows(page, before, before, 2) == 18_837 and film_that_shows(page, before, after, 2) <= 1_457
+    room.goes("trap", "page", "--no-keepaway")
+    assert film_that_shows(page, before, tints_of(page, True), 2) <= 1_449
+
+
+def white_that_peeks_out(page: PageFolder, before: np.ndarray, after: np.ndarray, by: int) -> int:
+    """How many pixels of film show white, away from white without colour, if the white is off by so many pixels in any of eight
+    directions."""
+    white = [ink.role for ink in page.inks].index("white")
+    colours = [at for at, ink in enumerate(page.inks) if at != white and ink.kind in ("Normal", "Opaque")]
+    bare, is_bare = (tints[colours].astype(int).sum(axis=0) < 26 for tints in (before, after))
+    film = bare & (before[white] < 128)
+    open_film = film & is_bare & ~grown(bare & ~film, by)
+    shows = [open_film & (moved(after[white], x * by, y * by) >= 128) for x in (-1, 0, 1) for y in (-1, 0, 1) if x or y]
+    return int(np.logical_or.reduce(shows).sum())
+
+
+def test_white_does_not_peek_out_from_under_the_colours(room: Room, built: None) -> None:
+    """White is drawn back by the trap width of flexo, 5 pixels: off by as much it shows nowhere."""
+    page, before, after = trapped(room, "label-white-varnish", "--preset", "flexo")
+    assert white_that_peeks_out(page, before, before, 5) == 12_680 and white_that_peeks_out(page, before, after, 5) == 0
 
 
 @needs("mutool")

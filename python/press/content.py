@@ -33,6 +33,9 @@ OF_PLATES = re.compile(r"DeviceCMYK|DeviceGray|Separation\(.*|DeviceN\(.*|None|"
 DARK_RGB, DARK_BLACK, OTHER_INK = 0.25, 0.5, 0.1
 # Type and lines below so many points are small; an ink that covers so much of the ground is one of it.
 SMALL_TYPE, HAIRLINE, GROUND_SHARE = 7.0, 0.25, 0.3
+# A white has the shape of the type above it if no more of it lies beside colour, as a share; colour is a tenth of full
+# ink, as for keepaway; and so far around a glyph is looked at, in points.
+BESIDE_SHARE, SOME_COLOUR, AROUND_GLYPH = 0.1, 0.1, 1.0
 # The stroke of a plain typeface, as a share of its size, and the pixels that a stroke needs for a trap.
 STEM, LEAST_PIXELS = 0.08, 3.0
 # An image of less dpi is coarse.
@@ -271,17 +274,53 @@ def is_paper(paint: Any) -> bool:
     return bool(paint.colour) and min(paint.colour) >= 1
 
 
+def white_type_findings(trace: Trace, plates: Plates, inks: Sequence[Ink], info: PageInfo, settings: Settings,
+                        page: int) -> Iterator[Finding]:
+    """Small type over a white of the same shape, of which keepaway cannot take enough."""
+    whites = [ink for ink in inks if ink.has_ink and ink.role == "white"]
+    for paint in trace.paints.values() if whites else ():
+        if not paint.size or paint.size >= SMALL_TYPE or is_paper(paint):
+            continue
+        box = on_page(paint.box, info, settings)
+        found = [readable(ink.colorant) for ink in whites if has_shape_of_colour(plates, inks, ink, box)]
+        if found:
+            x, y = (box.left + box.right) / 2 * MILLIMETRES, (box.lower + box.upper) / 2 * MILLIMETRES
+            yield Finding("type-on-white", WARNING, page, f"type of {paint.size:.1f} pt at {x:.0f}, {y:.0f} mm is over "
+                          f"{' + '.join(found)} of the same shape: out of register white shows next to it, and the "
+                          f"type lacks white; put it on a panel of white that is wider than the line", place=(x, y))
+            return
+
+
+def has_shape_of_colour(plates: Plates, inks: Sequence[Ink], white: Ink, box: Rect) -> bool:
+    """Whether a white around a glyph is below most of the colour there, and hardly anywhere else."""
+    part = part_of(plates, Rect(box.left - AROUND_GLYPH, box.lower - AROUND_GLYPH, box.right + AROUND_GLYPH,
+                                box.upper + AROUND_GLYPH))
+    tints = {ink.name: 1 - array[part].astype("f4") / plates.maxval for array, ink in zip(plates.arrays, inks)}
+    colours = [tints[ink.name] for ink in inks if ink.role != "white" and ink.kind in ("Normal", "Opaque")]
+    if not colours:
+        return False
+    colour = numpy.sum(colours, axis=0) >= SOME_COLOUR
+    below = tints[white.name] >= 0.5
+    count = int(below.sum())
+    return 0 < count < below.size * (1 - BESIDE_SHARE) and 2 * count >= int(colour.sum()) and \
+        int((below & ~colour).sum()) <= BESIDE_SHARE * count
+
+
 def ground_inks(plates: Plates, inks: Sequence[Ink], box: Rect) -> list[str]:
     """The inks that cover a good part of a box."""
-    scale = plates.resolution / 72
-    rows = slice(max(0, int(plates.height - box.upper * scale)), int(plates.height - box.lower * scale) + 1)
-    columns = slice(max(0, int(box.left * scale)), int(box.right * scale) + 1)
-    found = []
+    found, place = [], part_of(plates, box)
     for array, ink in zip(plates.arrays, inks):
-        part = array[rows, columns]
+        part = array[place]
         if counts(ink.kind) and part.size and 1 - float(part.mean()) / plates.maxval >= GROUND_SHARE:
             found.append(readable(ink.colorant))
     return found
+
+
+def part_of(plates: Plates, box: Rect) -> tuple[slice, slice]:
+    """The rows and columns of all pixels that a box in points touches."""
+    scale = plates.resolution / 72
+    return (slice(max(0, int(plates.height - box.upper * scale)), max(0, int(plates.height - box.lower * scale) + 1)),
+            slice(max(0, int(box.left * scale)), max(0, int(box.right * scale) + 1)))
 
 
 # What the file says

@@ -7,9 +7,11 @@ whether a job is valid and names its first fault; this module only wants to know
 from __future__ import annotations
 
 import re
+from bisect import bisect_right
 from collections.abc import Iterator, Mapping
 from dataclasses import dataclass, field, fields, replace
-from typing import Union
+from functools import lru_cache
+from typing import NamedTuple, Union
 
 SCALE = 10_000
 
@@ -75,12 +77,13 @@ TOKEN = re.compile(
     rb"(?P<gap>[\0\t\n\f\r ]+|%[^\n\r\f]*)|(?P<open><<|\[)|(?P<close>>>|\])|/(?P<name>[^\0\t\n\f\r ()<>\[\]{}/%]*)"
     rb"|(?P<text>\()|<(?P<hex>[0-9A-Fa-f\0\t\n\f\r ]*)>|(?P<run>[^\0\t\n\f\r ()<>\[\]{}/%]+)")
 PARENTHESIS = re.compile(rb"\\.|[()]", re.DOTALL)
+BEGIN_NUMBERS = frozenset(b"+-.0123456789")
 NUMBER = re.compile(rb"([+-]?)([0-9]*)(?:\.([0-9]*))?")
+DRAWING = ("rlineto", "moveto", "lineto", "rmoveto")
 CONSTANTS: Mapping[bytes, Value] = {b"true": True, b"false": False, b"null": None}
 
 
-@dataclass(frozen=True)
-class Statement:
+class Statement(NamedTuple):
     """An operator, and where its statement is: from its first operand to the operator's last byte."""
 
     operator: str
@@ -88,29 +91,33 @@ class Statement:
     end: int
 
 
-def statements(text: bytes) -> Iterator[Statement]:
-    """The statements of a valid job, in their order."""
-    depth, start = 0, -1
-    for kind, spelling, at in _tokens(text):
-        start = at if start < 0 else start
-        depth += {"open": 1, "close": -1}.get(kind, 0)
-        if not depth and _is_operator(kind, spelling):
-            yield Statement(spelling.decode("latin-1"), start, at + len(spelling))
-            start = -1
+@dataclass(frozen=True)
+class Parsed:
+    """A valid job, and how it is written: its statements in their order, and the state after each of them, as
+    parameters, step limits by ink, and how many zones are made."""
 
+    job: Job
+    statements: tuple[Statement, ...]
+    states: tuple[tuple[Parameters, Mapping[str, int], int], ...]
 
-def in_force(text: bytes, offset: int) -> Parameters:
-    """The parameters in force after the statements before an offset."""
-    reader = _Reader()
-    reader.read(text[:offset])
-    return reader.parameters
+    def before(self, offset: int) -> tuple[tuple[JobZone, ...], JobZone]:
+        """The zones that the statements before an offset make, and what is in force there."""
+        count = bisect_right(self.statements, offset, key=lambda one: one.end)
+        parameters, limits, zones = self.states[count - 1] if count else (Parameters(), {}, 0)
+        return self.job.zones[1:1 + zones], JobZone(parameters, (), limits)
 
 
 def read_job(text: bytes) -> Job:
     """What a valid job says. Raises JobSyntaxError if the notation or a statement is not that of a job."""
+    return parse(text).job
+
+
+def parse(text: bytes) -> Parsed:
+    """A valid job, and how it is written. Raises JobSyntaxError like read_job."""
     return _Reader().read(text)
 
 
+@lru_cache(4096)
 def ten_thousandths(spelling: bytes) -> int:
     """A number as the engine keeps it: digits after the fourth decimal are cut, not rounded."""
     found = NUMBER.fullmatch(spelling)
@@ -121,7 +128,7 @@ def ten_thousandths(spelling: bytes) -> int:
 
 
 def _is_operator(kind: str, spelling: bytes) -> bool:
-    return kind == "run" and spelling not in CONSTANTS and spelling[:1] not in b"+-.0123456789"
+    return kind == "run" and spelling[0] not in BEGIN_NUMBERS and spelling not in CONSTANTS
 
 
 def _end_of_text(text: bytes, at: int) -> int:
@@ -138,15 +145,19 @@ def _tokens(text: bytes) -> Iterator[tuple[str, bytes, int]]:
     """Kind, bytes and offset of each token."""
     place = 0
     while place < len(text):
-        found = TOKEN.match(text, place)
-        if not found:
-            raise JobSyntaxError("no token", place)
-        kind, end = str(found.lastgroup), found.end()
-        if kind == "text":
+        for found in TOKEN.finditer(text, place):
+            kind = str(found.lastgroup)
+            if found.start() != place or kind == "text":
+                break
+            if kind != "gap":
+                yield kind, found[kind] if kind in ("name", "run") else found[0], place
+            place = found.end()
+        if place < len(text):
+            if not TOKEN.match(text, place):
+                raise JobSyntaxError("no token", place)
             end = _end_of_text(text, place)
-        if kind != "gap":
-            yield kind, found[kind] if kind in ("name", "run") else text[place:end], place
-        place = end
+            yield "text", text[place:end], place
+            place = end
 
 
 def _closed(kind: bytes, items: list[Value], at: int) -> Value:
@@ -159,7 +170,7 @@ def _closed(kind: bytes, items: list[Value], at: int) -> Value:
 
 
 class _Reader:
-    """The statements so far: what is in force, the path, and the zones."""
+    """What is in force after the statements so far, the path, and the zones."""
 
     def __init__(self) -> None:
         self.parameters = Parameters()
@@ -171,11 +182,13 @@ class _Reader:
         self.is_closed = False
         self.zones: list[JobZone] = []
 
-    def read(self, text: bytes) -> Job:
+    def read(self, text: bytes) -> Parsed:
         """The job of a text."""
         operands: list[Value] = []
         brackets: list[list[Value]] = []
+        found, states, start = [], [], -1
         for kind, spelling, at in _tokens(text):
+            start = at if start < 0 else start
             if kind == "open":
                 brackets.append([])
                 continue
@@ -186,27 +199,28 @@ class _Reader:
             elif _is_operator(kind, spelling):
                 if brackets:
                     raise JobSyntaxError("operator inside brackets", at)
-                self.statement(spelling.decode("latin-1"), operands, at)
-                operands = []
+                found.append(Statement(spelling.decode("latin-1"), start, at + len(spelling)))
+                self.statement(found[-1].operator, operands, at)
+                states.append((self.parameters, self.limits, len(self.zones)))
+                operands, start = [], -1
                 continue
             else:
                 value = _plain(kind, spelling, at)
             (brackets[-1] if brackets else operands).append(value)
-        return self.job()
+        return Parsed(self.job(), tuple(found), tuple(states))
 
     def statement(self, operator: str, operands: list[Value], at: int) -> None:
         """Carries out one statement."""
-        plain = {"newpath": self.newpath, "closepath": self.closepath, "settrapzone": self.settrapzone}
         try:
-            if operator == "setpagedevice":
+            if operator in DRAWING:
+                x, y = operands
+                self.draw(operator, _number(x), _number(y))
+            elif operator == "setpagedevice":
                 self.setpagedevice(_dictionary(*operands))
             elif operator == "settrapparams":
                 self.settrapparams(_dictionary(*operands))
-            elif operator in ("moveto", "lineto", "rmoveto", "rlineto"):
-                x, y = operands
-                self.draw(operator, _number(x), _number(y))
             elif operator != "showpage":
-                plain[operator]()
+                {"newpath": self.newpath, "closepath": self.closepath, "settrapzone": self.settrapzone}[operator]()
         except (ValueError, TypeError, KeyError) as fault:
             raise JobSyntaxError(f"{operator}: {fault}", at) from fault
 

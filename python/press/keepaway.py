@@ -188,12 +188,6 @@ def in_calls(page: PageFolder, fixed: int, inks: Sequence[Ink]) -> list[list[Ink
 
 # The program
 
-@functools.lru_cache(maxsize=None)
-def draws_whites(path: str) -> bool:
-    """Whether a trapkeep has the use --underprint: earlier ones draw inks back under black alone."""
-    return b"--underprint" in tools.run([path]).stdout
-
-
 class Keepaway:
     """The two uses of keepaway on a page, whose plates are made into the folder `out` in the page's folder."""
 
@@ -244,9 +238,6 @@ class Keepaway:
         colours = [ink for ink in self.page.inked if ink.role != WHITE and details(self.job, ink).kind in COLOURS]
         what = "the white is not drawn back under the colours"
         if not whites or not colours or not self.can_run(what):
-            return
-        if not draws_whites(tools.program(PROGRAM)):
-            self.warn(f"{PROGRAM} is a version without --underprint: {what}")
             return
         if not in_calls(self.page, len(whites) + len(colours) - 1, whites[:1]):
             self.warn_of_size(len(whites) + len(colours), what)

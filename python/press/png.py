@@ -19,7 +19,7 @@ def encoded(picture: Array, level: int = LEVEL) -> bytes:
     rows = numpy.zeros((height, 1 + picture[0].size), "u1")
     rows[:, 1:] = picture.reshape(height, -1)
     head = struct.pack(">IIBBBBB", width, height, 8, RGB if picture.ndim == 3 else GRAY, 0, 0, 0)
-    parts = (b"IHDR", head), (b"IDAT", zlib.compress(rows.tobytes(), level)), (b"IEND", b"")
+    parts = (b"IHDR", head), (b"IDAT", zlib.compress(rows.data, level)), (b"IEND", b"")
     return SIGNATURE + b"".join(chunk(*part) for part in parts)
 
 

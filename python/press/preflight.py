@@ -483,6 +483,7 @@ def content_findings(page: Page, info: PageInfo, settings: Settings) -> Iterator
             # Rendered small, a page is measured by its type, and not by its strokes.
             yield from content.type_findings(page.trace, info, settings, number)
         yield from content.reversed_findings(page.trace, plates, inks, info, settings, number)
+        yield from content.white_type_findings(page.trace, plates, inks, info, settings, number)
 
 
 def layout_findings(page: Page, info: PageInfo, settings: Settings, layout: Layout | None) -> Iterator[Finding]:

@@ -17,6 +17,7 @@ from .files import whole_file, write_text
 from .findings import page_ranges
 from .folder import (JOB, JSON, NO_PLATES, PART, REPORT, SHEET, TABLE, TRAPPED, WARNINGS, JobFolder, PageFolder,
                      read_layout, read_table, read_text)
+from .fringes import fringes_of
 from .names import readable
 from .picture import Painter, Part, mean_of, pale, shifted, trap_width
 from .plates import Array, thickened
@@ -111,15 +112,23 @@ def write_sheet(path: str, title: str, head: str, parts: Iterable[str]) -> None:
 # The pictures of a page
 
 @dataclass(frozen=True)
-class Seen:
-    """What is seen in some rows of a page: on how many samples gaps open before trapping and after, the points
-    of the small picture where a trap closes some and where some are left, and how many of these each part of the grid
-    has; what trapping changed; and the rows of the small picture before and after."""
+class Opened:
+    """What misregistration opens in some rows of a page: on how many samples before trapping and after, and the
+    points of the small picture at which that is prevented and at which it is left."""
 
-    bared: tuple[int, int]
+    counts: tuple[int, int]
     closed: Array
     left: Array
-    counts: Array
+
+
+@dataclass(frozen=True)
+class Seen:
+    """What is seen in some rows of a page: the gaps, how many of those that are left each part of the grid has, the
+    coloured fringes, what trapping changed, and the rows of the small picture before and after."""
+
+    gaps: Opened
+    gap_counts: Array
+    fringes: Opened
     changes: Found
     small: tuple[Array, Array]
 
@@ -133,11 +142,14 @@ class Sheet:
         self.radius = max(1, int(self.width) // 2)
         self.times = max(1, -(-page.head.width // OVERVIEW), -(-page.head.height // (OVERVIEW * 2)))
         self.densities = [float(ink.density) if is_seen(ink.kind) else 0.0 for ink in page.inks]
+        self.edges_of_black = fringes_of(page, self.radius)
         bands = self.painter.small_rows(self.times)
         ends = [*(band.start for band in bands[1:]), page.head.height]
         self.seen = crew.each([functools.partial(self.look_at, band, range(band.start, end))
                                for band, end in zip(bands, ends)])
-        self.bared_before, self.bared_after = (sum(counts) for counts in zip(*(one.bared for one in self.seen)))
+        self.bared_before, self.bared_after = (sum(counts) for counts in zip(*(one.gaps.counts for one in self.seen)))
+        self.fringes_before, self.fringes_after = (
+            sum(counts) for counts in zip(*(one.fringes.counts for one in self.seen)))
         self.changes: Changes = together([one.changes for one in self.seen], self.painter.before[0], self.times)
 
     def look_at(self, band: range, rows: range) -> Seen:
@@ -146,9 +158,14 @@ class Sheet:
         before, after = self.painter.before, self.painter.after
         old, new = gaps.bared_twice(before, after, self.densities, self.radius, rows)
         left = numpy.flatnonzero(new) + rows.start * new.shape[1]
-        return Seen((int(old.sum()), len(left)), self.small_places(old & ~new, rows), self.small_places(new, rows),
-                    GRID.of_places(left, before[0].shape), changes_in(before, after, self.times, GRID, rows),
-                    self.painter.small_both(self.times, band))
+        fringes = self.edges_of_black.both(before, after, rows)
+        return Seen(self.opened(old, new, rows), GRID.of_places(left, before[0].shape), self.opened(*fringes, rows),
+                    changes_in(before, after, self.times, GRID, rows), self.painter.small_both(self.times, band))
+
+    def opened(self, old: Array, new: Array, rows: range) -> Opened:
+        """What is opened in some rows, by the samples before and after trapping."""
+        return Opened((int(old.sum()), int(new.sum())), self.small_places(old & ~new, rows),
+                      self.small_places(new, rows))
 
     def small_places(self, where: Array, rows: range) -> Array:
         """The points of the small picture that have marked samples of some rows."""
@@ -171,18 +188,18 @@ class Sheet:
             traps[thickened(marks)[:traps.shape[0], :traps.shape[1]]] = light
         return traps
 
-    def map(self, ground: Array) -> Array:
-        """The gaps that misregistration opens, on the small picture, which is pale: those that are closed, and those
-        that are left."""
-        bare = ground.copy()
-        bare[self.small_marks([one.closed for one in self.seen])] = BLUE
-        bare[self.small_marks([one.left for one in self.seen])] = RED
-        return bare
+    def map(self, ground: Array, opened: Sequence[Opened]) -> Array:
+        """What misregistration opens, on the small picture, which is pale: in blue what is prevented, in red what is
+        left."""
+        drawn = ground.copy()
+        drawn[self.small_marks([one.closed for one in opened])] = BLUE
+        drawn[self.small_marks([one.left for one in opened])] = RED
+        return drawn
 
     def details(self) -> list[Part]:
         """The parts with most traps, and those with most gaps left, as rectangles that do not overlap."""
         found: list[Part] = []
-        left: Array = numpy.sum([one.counts for one in self.seen], axis=0)
+        left: Array = numpy.sum([one.gap_counts for one in self.seen], axis=0)
         for counts, most in ((self.changes.counts, BY_TRAPS), (left, BY_BARED)):
             for at in numpy.argsort(counts, axis=None)[::-1][:most].tolist():
                 row, column = divmod(at, counts.shape[1])
@@ -229,25 +246,27 @@ def page_text(page: PageFolder, crew: Crew = ALONE) -> str:
                  ink_rows(sheet, report))
     pictures: list[Callable[[], str]] = [
         lambda: image(sheet.traps(ground), "the traps"), lambda: map_text(sheet, ground),
-        lambda: thin_text(sheet, ground), lambda: slider_text(before, after), lambda: register_text(sheet)]
+        lambda: fringes_text(sheet, ground), lambda: thin_text(sheet, ground), lambda: slider_text(before, after),
+        lambda: register_text(sheet)]
     pictures += [functools.partial(plate_text, sheet, at) for at in range(len(page.inks))]
-    traps, bare, thin, slider, register, *plates = crew.each(pictures)
+    traps, gap_map, fringes, thin, slider, register, *plates = crew.each(pictures)
     return "\n".join([
         f'<section class="page" id="page-{page.source.page}" data-changed="{report.changed}">', head,
         warnings_text(page.path), "<h3>Before and after</h3>", slider, register,
         f"<h3>Traps</h3><p>Where ink was added, thickened, in its colour: {legend or 'nowhere'}</p>"
-        f"{traps}", keepaway_text(page), bare,
+        f"{traps}", keepaway_text(page), gap_map, fringes,
         f'<h3>Plates</h3><div class="plates">{"".join(plates)}</div>', "<h3>Inks</h3>", inks,
         "<h3>Zones</h3>", zones, thin, coverage_text(page),
         f"<h3>The job</h3><pre>{escaped(read_text(page.file(JOB)))}</pre>", "</section>"])
 
 
 def add_to_json(sheet: Sheet) -> None:
-    """Adds to report.json how many pixels of gaps misregistration opens."""
+    """Adds to report.json on how many pixels misregistration opens gaps and shows coloured fringes."""
     path = sheet.page.file(TRAPPED, JSON)
     text = json.loads(read_text(path) or "{}")
     text["misregister"] = {"radius": sheet.radius, "bared_before": sheet.bared_before,
-                           "bared_after": sheet.bared_after}
+                           "bared_after": sheet.bared_after, "fringes_before": sheet.fringes_before,
+                           "fringes_after": sheet.fringes_after}
     write_text(path, json.dumps(text, indent=1) + "\n")
 
 
@@ -311,7 +330,7 @@ def canvas(part: Part) -> str:
 def map_text(sheet: Sheet, ground: Array) -> str:
     """The map of the gaps that misregistration still opens, on the small picture before trapping, which is pale."""
     before, after = sheet.bared_before, sheet.bared_after
-    radius = f"{sheet.radius} sample" + ("" if sheet.radius == 1 else "s")
+    radius = counted(sheet.radius)
     # Two plates that are off each its own way part by twice as much.
     far = (f" That is more than traps of {sheet.width:.2f} samples close everywhere."
            if 0 < sheet.width < 2 * sheet.radius else "")
@@ -319,7 +338,26 @@ def map_text(sheet: Sheet, ground: Array) -> str:
             f"{radius} in both directions: {after:,} samples after trapping, {before:,} before. {swatch(BLUE)}closed "
             f"by a trap.{far}</p><p>Expect red at small type, inside images, and at marks outside the trim or bleed "
             f"box: traps are narrower or left out there. Look at red in other places.</p>"
-            f'{image(sheet.map(ground), "a map of the gaps that can still open")}')
+            f'{image(sheet.map(ground, [one.gaps for one in sheet.seen]), "a map of the gaps that can still open")}')
+
+
+def counted(samples: int) -> str:
+    """So many samples, in words."""
+    return f"{samples} sample" + ("" if samples == 1 else "s")
+
+
+def fringes_text(sheet: Sheet, ground: Array) -> str:
+    """The map of the coloured fringes that misregistration shows at rich black; nothing if there can be none."""
+    before, after = sheet.fringes_before, sheet.fringes_after
+    if not before and not after:
+        return ""
+    fringes = image(sheet.map(ground, [one.fringes for one in sheet.seen]),
+                    "a map of the coloured fringes that can show")
+    return (f"<h3>Where colour can show next to black</h3><p>{swatch(RED)}an ink below black can show next to it here, "
+            f"each plate being off by {counted(sheet.radius)}: {after:,} samples on the plates as made, {before:,} as "
+            f"separated. {swatch(BLUE)}prevented by keepaway.</p><p>Expect red in images, and at edges and marks "
+            f"outside the trim or bleed box: keepaway changes nothing there.</p>"
+            f"{fringes}")
 
 
 def plate_text(sheet: Sheet, at: int) -> str:

@@ -124,6 +124,12 @@ def state_after(own: Sequence[Statement]) -> JobZone:
     return read_job(b"\n".join(one.text for one in own)).zones[0]
 
 
+def room_beside(zones: Sequence[JobZone]) -> tuple[int, int]:
+    """For how many zones and rectangles a job has room beside these zones."""
+    used = sum(len(points) for zone in zones for points in zone.subpaths)
+    return MOST_ZONES - len(zones), max(0, (MOST_VERTICES - used) // CORNERS - 8)
+
+
 class Composer:
     """Composes the zones of one page."""
 
@@ -139,9 +145,8 @@ class Composer:
         # The zones and the rectangles for which the job has room beside the owner's zones and the page. Each step joins
         # its rectangles to half of those that are left, and takes its zones before the steps after it: so images are
         # given up first, then pairs, thin strokes and layers.
-        used = sum(len(points) for zone in self.owner for points in zone.subpaths)
-        self.zones_left = MOST_ZONES - len(self.owner) - 1
-        self.rects_left = max(0, (MOST_VERTICES - used) // CORNERS - 8)
+        self.zones_left, self.rects_left = room_beside(self.owner)
+        self.zones_left -= 1
 
     def take(self, pieces: Sequence[Piece]) -> list[Piece]:
         """Zones that are written, which take room."""

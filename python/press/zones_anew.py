@@ -2,19 +2,21 @@
 """The zones of a page folder made anew: the press room's own zones depend on the trap widths of page.job, which its
 owner may change. What they are made of is kept in zones.json.
 
-`make_anew` does it for press/zones. The trap editor composes the zones of thin strokes from the places of the strokes
-whenever the job changes, and has the places found anew on the plates if the change moves them.
+`make_anew` does it for press/zones. The trap editor composes the zones of images and of thin strokes whenever the job
+changes, and has the places of thin strokes found anew on the plates if the change moves them.
 """
 from __future__ import annotations
 
 import dataclasses
 import json
 from collections.abc import Iterator, Mapping, Sequence
+from functools import lru_cache
 from typing import Any
 
-from .desk.job_edits import WHOLE_PAGE, Edits, below_thin, thin_place
-from .desk.job_sections import HEAD, IMAGES, OPTIONS, OWNER, PAGE, TRIM, section_of, sections
-from .desk.reading import read_job
+from .desk.job_edits import (BEGIN, BLOCKS, NEW_IMAGES, WHOLE_PAGE, Edits, apply_edits, below_images, below_thin,
+                             place_of, thin_place)
+from .desk.job_sections import HEAD, IMAGES, OPTIONS, OWNER, PAGE, THIN, TRIM, section_of, sections
+from .desk.reading import MOST_TEXTS, read_job, zones_before
 from .desk.record import options_for
 from .errors import PressError, Status
 from .files import named, write_text
@@ -24,11 +26,12 @@ from .inks import Ink
 from .job import Statement, read_all
 from .job_language import KEYS, SCALE, Job, JobSyntaxError, Parameters, Subpath
 from .keepaway import page_parameters
-from .layout import MADE_OF, Layout, lay_out, pictures_alone, pixels_of, points_of, stroke_rule, strokes_of
+from .layout import (MADE_OF, Layout, image_places, lay_out, pictures_alone, pixels_of, points_of, stroke_rule,
+                     strokes_of, trap_box)
 from .origins import Origins, changed_values
 from .rects import Rect
 from .thin import boxes_by_width
-from .zones import Composer, Wanted, Writer, base_rule, first_with_zones, owner_piece, reach, state_after
+from .zones import Composer, Wanted, Writer, base_rule, first_with_zones, owner_piece, reach, room_beside, state_after
 
 WIDTHS = {field: key for key, field in KEYS.items()}
 Places = Mapping[float, Sequence[Rect]]
@@ -55,10 +58,17 @@ def read_written(page: PageFolder) -> WrittenJob:
         job, parts = read_job(text), sections(text)
     except (JobSyntaxError, RecursionError, IndexError) as fault:
         raise PressError(Status.PROGRAM, f"no valid job: {fault}", path) from fault
+    return WrittenJob(text, job, tuple(own_statements(text)), parts[-1].start,
+                      any(one.kind == IMAGES for one in parts))
+
+
+def own_statements(text: bytes) -> list[Statement]:
+    """What the owner wrote of a valid job."""
+    job, parts = read_job(text), sections(text)
     own = [Statement(None, text[one.start:one.end]) for one in parts if one.kind in (HEAD, OPTIONS, OWNER)]
     if any(one.kind in (PAGE, TRIM) for one in parts) and len(job.zones) > 1:
         own = with_parameters(own, job.zones[1].parameters)
-    return WrittenJob(text, job, tuple(own), parts[-1].start, any(one.kind == IMAGES for one in parts))
+    return own
 
 
 def with_parameters(own: Sequence[Statement], now: Parameters) -> list[Statement]:
@@ -89,13 +99,15 @@ def stale_lines(page: PageFolder) -> Iterator[str]:
         origins, written = origins_of(page), read_written(page)
     except PressError:
         return
-    now, images = base_rule(written.own), written.has_images
+    # The trap editor has made those in its own blocks for the widths that it set.
+    images, thin = (BEGIN.format(name).encode() not in written.text for name in (NEW_IMAGES, BLOCKS[THIN]))
+    images, thin, now = images and written.has_images, thin and origins.thin_zones, base_rule(written.own)
     changed = list(changed_values(origins.rule, now))
     reaches = abs(reach(read_all(written.own), page.source.resolution) - origins.reach) > 0.0001
-    if not (origins.thin_zones and changed or images and reaches):
+    if not (thin and changed or images and reaches):
         return
     values = ", ".join(f"{WIDTHS[name]} {shown(origins.rule, name)}, now {shown(now, name)}" for name in changed)
-    what = " and ".join(["images"] * images + ["thin strokes"] * origins.thin_zones)
+    what = " and ".join(["images"] * images + ["thin strokes"] * thin)
     yield (f"{page.file(JOB)}: the zones of {what} were made for {values or 'other widths of your zones'}: "
            f"press/zones {page.path} makes them anew")
 
@@ -132,6 +144,35 @@ def kept_figures(layout: Layout, before: Mapping[str, Any]) -> Layout:
     return dataclasses.replace(layout, coverage=coverage, total_ink=before.get("total_ink", 0.0) / 100)
 
 
+# Images of a page that the trap editor changes
+
+@lru_cache(MOST_TEXTS)
+def margin_of(text: bytes, resolution: int) -> float:
+    """How far the zones of images lie within the images by a job, in points."""
+    return round(reach(read_all(own_statements(text)), resolution), 4)
+
+
+def composed_images(original: bytes, edits: Edits, origins: Origins, resolution: int) -> str | None:
+    """The statements of the zones of images by the widths of edits; None if those of the job fit."""
+    settings = origins.settings(resolution)
+    box, text = trap_box(origins.info, settings)[0], apply_edits(original, dataclasses.replace(edits, images=None))
+    is_cut = box is not None and TRIM not in edits.off
+    is_moved = margin_of(text, resolution) != margin_of(original, resolution) or box is not None and not is_cut
+    if origins.info is None or not origins.images or IMAGES in edits.off or not is_moved:
+        return None
+    own = own_statements(text)
+    places, over = image_places(own, origins.info, origins.trace(), settings)
+    composer = Composer(own, Wanted(origins.info.size(settings.box), box if is_cut else None,
+                                    images=tuple(places), above=tuple(over)))
+    below = below_images(original, edits)
+    start, _ = place_of(below, IMAGES)
+    zones, last = zones_before(below, start)
+    composer.zones_left, composer.rects_left = room_beside(zones)
+    pieces = composer.image_zones()
+    return ("" if zones or not pieces else WHOLE_PAGE) + b"".join(
+        one.text for one in Writer(last).statements(pieces, None)).decode()
+
+
 # Thin strokes of a page that the trap editor changes
 
 @dataclasses.dataclass(frozen=True)
@@ -165,29 +206,32 @@ def by_width(places: Sequence[Sequence[float]]) -> dict[float, list[Rect]]:
     return found
 
 
-def first_strokes(page: PageFolder, original: bytes) -> Strokes | None:
-    """What `press/plates` found; None if the job is not its own, or it was not to look for thin strokes."""
+def first_strokes(page: PageFolder, rule: str) -> Strokes | None:
+    """What `press/plates` found by the rule of its job; None if the job is not its own, or it was not to look for thin
+    strokes."""
     layout = read_layout(page)
     if not layout or options_for(page).get("no-thin-zones"):
         return None
-    return Strokes(rule_of(read_job(original), Edits()), by_width(layout.get("thin", {}).get("places", [])))
+    return Strokes(rule, by_width(layout.get("thin", {}).get("places", [])))
 
 
-def rule_of(job: Job, edits: Edits) -> str:
-    """What the places of thin strokes depend on: the page's parameters, its inks, and whether images are left out."""
+def rule_of(job: Job, edits: Edits, margin: float | None) -> str:
+    """What the places of thin strokes depend on: the page's parameters, its inks, and the zones of images, in which
+    none are looked for. `margin` is how far these lie within the images; None if the page has no images."""
     inks = [[name, ink.density, ink.kind] for name, ink in sorted(job.inks.items())]
-    return json.dumps([list(vars(page_parameters(job)).values()), inks, IMAGES in edits.off])
+    is_off = IMAGES in edits.off
+    return json.dumps([list(vars(page_parameters(job)).values()), inks, is_off, None if is_off else margin])
 
 
 def composed(original: bytes, edits: Edits, places: Places, size: tuple[float, float]) -> str:
     """The statements of the zones of thin strokes, never wider than the zone below, and none in zones that are off.
     `size` is that of the page in points."""
     text = below_thin(original, edits)
-    *below, last = read_job(text[:thin_place(text)] + b"\nnewpath 0 0 moveto settrapzone").zones[1:]
+    below, last = zones_before(text, thin_place(text))
     right, upper = (round(side * SCALE) for side in size)
     whole = (0, 0), (right, 0), (right, upper), (0, upper)
     composer = Composer([], Wanted(size, thin=places))
-    composer.owner = tuple(below)
+    composer.owner = below
     page = dataclasses.replace(last, subpaths=(whole,))
     pieces = composer.thin_zones([owner_piece(zone) for zone in below or (page,)])
     statements = Writer(last).statements(pieces, None)

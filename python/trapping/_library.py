@@ -19,15 +19,29 @@ class Place(ctypes.Structure):
         "sheet_width", "sheet_height", "left", "top", "core_left", "core_top", "core_width", "core_height")]
 
 
+class Handle(ctypes.Structure):
+    """An open job: struct trap_job of trap.h. One that is made here is not open."""
+
+    _fields_ = [("inner", ctypes.c_void_p), ("is_open", ctypes.c_uint8)]
+
+
 _window = (*_page, ctypes.POINTER(Place), *_text)
+_open_window = (ctypes.POINTER(Handle), *_window[2:])
 _ARGUMENTS = {
     "trap_planes8": (*_page, *_text),
     "trap_planes16": (*_page, *_text),
     "trap_window8": _window,
     "trap_window16": _window,
     "trap_halo": (*_bytes, ctypes.POINTER(ctypes.c_uint32), *_text),
+    "trap_open": (*_bytes, ctypes.POINTER(Handle), *_text),
+    "trap_close": (ctypes.POINTER(Handle),),
+    "trap_open_halo": (ctypes.POINTER(Handle), ctypes.POINTER(ctypes.c_uint32)),
+    "trap_open_window8": _open_window,
+    "trap_open_window16": _open_window,
     "trap_version": (),
 }
+
+_RESULTS: Dict[str, Any] = {"trap_version": ctypes.c_uint32, "trap_close": None}
 
 _exports: Dict[str, Callable[..., int]] = {}  # of those that were called
 
@@ -59,7 +73,7 @@ def export(name: str) -> Callable[..., int]:
         found: Any = getattr(_load(), name, None)
         if found is None:
             raise ImportError(f"{library_path()} is not libtrap: it has no {name}")
-        found.restype = ctypes.c_uint32 if name == "trap_version" else ctypes.c_uint8
+        found.restype = _RESULTS.get(name, ctypes.c_uint8)
         found.argtypes = _ARGUMENTS[name]
         _exports[name] = found
     return _exports[name]

@@ -114,6 +114,17 @@ def sides_of(memory: Memory, width: Optional[int], height: Optional[int]) -> Tup
     return width, height
 
 
+def stack_of(stack: Samples, width: Optional[int], height: Optional[int], step: Optional[int]) -> Tuple[Memory, int, int, int]:
+    """The memory of the planes of a stack, the sides of each, and the distance between rows in samples."""
+    memory = memory_of(stack)
+    if not memory.is_packed():
+        raise TypeError("the planes of a stack must be adjacent, without gaps; give padding by width")
+    if step is None:
+        step = memory.shape[-1] if len(memory.shape) > 1 else width
+    width, height = sides_of(memory, width, height)
+    return memory, width, height, width if step is None else step
+
+
 class Stack:
     """A copy of planes, one after the other, from which they can be filled again."""
 

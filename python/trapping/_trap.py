@@ -1,17 +1,14 @@
 # SPDX-License-Identifier: Apache-2.0
 """The calls that trap a page, or a window of a sheet."""
 import ctypes
-from typing import Any, List, Mapping, Optional, Sequence, Tuple
+from typing import List, Mapping, Optional, Sequence, Tuple
 
-from ._arguments import Job, check_apart, job_bytes, name_lines, numbers
+from ._arguments import Job, check_apart, job_bytes
 from ._arguments import place as place_of
-from ._library import Place, export
-from ._planes import Memory, Samples, Stack, memory_of, sides_of
-from ._refusal import Refusal
+from ._calls import call, text_of
+from ._library import export
+from ._planes import Memory, Samples, Stack, memory_of, sides_of, stack_of
 from ._report import Report
-
-# A buffer of this size holds every report and every error line (LIBTRAP_TEXT_SIZE of trap.h).
-_TEXT_SIZE = 16384
 
 
 def trap(job: Job, planes: Mapping[str, Samples], *, maxval: Optional[int] = None, width: Optional[int] = None,
@@ -37,10 +34,11 @@ def trap(job: Job, planes: Mapping[str, Samples], *, maxval: Optional[int] = Non
         _check(name, memory, found[0], width, height)
     check_apart(found)
     names = list(planes)
+    sides, count = (width, height, width), len(found) * width * height
     if _are_adjacent(found, width, height):
-        return _call(job, names, found[0].address, found[0].size, width, height, width, maxval, len(found) * width * height)
+        return _trap(job, names, found[0].address, found[0].size, sides, maxval, count)
     stack = Stack(found, width, height)
-    report = _call(job, names, stack.address, found[0].size, width, height, width, maxval, len(found) * width * height)
+    report = _trap(job, names, stack.address, found[0].size, sides, maxval, count)
     stack.fill()
     return report
 
@@ -55,19 +53,8 @@ def trap_stack(job: Job, names: Sequence[str], stack: Samples, *, maxval: Option
 
     Otherwise like `trap`.
     """
-    memory, width, height, step = _stack(stack, width, height, step)
-    return _call(job, names, memory.address, memory.size, width, height, step, maxval, memory.sample_count())
-
-
-def _stack(stack: Samples, width: Optional[int], height: Optional[int], step: Optional[int]) -> Tuple[Memory, int, int, int]:
-    """The memory of the planes of a stack, the sides of each, and the distance between rows in samples."""
-    memory = memory_of(stack)
-    if not memory.is_packed():
-        raise TypeError("the planes of a stack must be adjacent, without gaps; give padding by width")
-    if step is None:
-        step = memory.shape[-1] if len(memory.shape) > 1 else width
-    width, height = sides_of(memory, width, height)
-    return memory, width, height, width if step is None else step
+    memory, width, height, step = stack_of(stack, width, height, step)
+    return _trap(job, names, memory.address, memory.size, (width, height, step), maxval, memory.sample_count())
 
 
 def trap_window(job: Job, names: Sequence[str], window: Samples, *, sheet: Tuple[int, int], at: Tuple[int, int] = (0, 0),
@@ -87,8 +74,10 @@ def trap_window(job: Job, names: Sequence[str], window: Samples, *, sheet: Tuple
     does not fit.
     """
     place = place_of(sheet, at, core)
-    memory, width, height, step = _stack(window, width, height, step)
-    return _call(job, names, memory.address, memory.size, width, height, step, maxval, memory.sample_count(), place)
+    memory, width, height, step = stack_of(window, width, height, step)
+    data = job_bytes(job)
+    return call(f"trap_window{8 * memory.size}", (data, len(data)), names, memory.address, memory.size,
+                (width, height, step), maxval, memory.sample_count(), ctypes.byref(place))
 
 
 def halo(job: Job) -> int:
@@ -97,10 +86,7 @@ def halo(job: Job) -> int:
     It is how far the job's widest trap reaches, rounded up to whole samples, and at least one. Raises Refusal if the
     job has a fault."""
     data, number = job_bytes(job), ctypes.c_uint32(0)
-    text, length = ctypes.create_string_buffer(_TEXT_SIZE), ctypes.c_size_t(0)
-    status = export("trap_halo")(data, len(data), ctypes.byref(number), ctypes.addressof(text), _TEXT_SIZE,
-                                 ctypes.byref(length))
-    _text(status, text, length)
+    text_of("trap_halo", data, len(data), ctypes.byref(number))
     return number.value
 
 
@@ -128,25 +114,8 @@ def _are_adjacent(planes: List[Memory], width: int, height: int) -> bool:
     return all(memory.is_packed() and memory.address == first + c * plane for c, memory in enumerate(planes))
 
 
-def _text(status: int, text: Any, length: Any) -> str:
-    """The text of a call; a Refusal if it failed."""
-    printed = text.raw[:min(length.value, _TEXT_SIZE)].decode("ascii")
-    if status:
-        raise Refusal(status, printed.rstrip("\n"))
-    return str(printed)
-
-
-def _call(job: Job, names: Sequence[str], address: int, size: int, width: int, height: int, step: int,
-          maxval: Optional[int], count: int, place: Optional[Place] = None) -> Report:
-    """Calls the library on samples in memory: of a page, or of a window if there is a place."""
-    if maxval is None:
-        maxval = 255 if size == 1 else 65535
-    layout = numbers(width, height, step, maxval)
+def _trap(job: Job, names: Sequence[str], address: int, size: int, sides: Tuple[int, int, int], maxval: Optional[int],
+          count: int) -> Report:
+    """Traps a page of samples in memory."""
     data = job_bytes(job)
-    listed = name_lines(names)
-    text, length = ctypes.create_string_buffer(_TEXT_SIZE), ctypes.c_size_t(0)
-    placed = () if place is None else (ctypes.byref(place),)
-    status = export("trap_%s%d" % ("planes" if place is None else "window", 8 * size))(
-        data, len(data), listed, len(listed), address, count, *layout, *placed, ctypes.addressof(text), _TEXT_SIZE,
-        ctypes.byref(length))
-    return Report(_text(status, text, length))
+    return call(f"trap_planes{8 * size}", (data, len(data)), names, address, size, sides, maxval, count)

@@ -17,183 +17,190 @@ use band_core::layout::Layout;
 use page_model::page::Page;
 use row_values::{RowBuffers, make_answers, make_marks, make_tints, make_zones};
 
+/// A piece that is to be made: its page, how the page's pieces lie, and its number.
+#[derive(Clone, Copy, Drop)]
+pub(crate) struct PieceTask<'a> {
+    pub(crate) page: &'a Page,
+    pub(crate) layout: &'a Layout,
+    pub(crate) piece: u32,
+}
+
 /// The zones of a band, from the page alone.
 pub(crate) fn fill_zones<S, C: CellSink<S>>(
     table: &C,
     seat: &mut S,
-    page: &Page,
-    layout: &Layout,
-    piece: u32,
+    task: &PieceTask<'_>,
     zones: &mut [u8],
     workspace: &mut RowBuffers,
 )
-    requires page { page.now ≡ (C.table_key table.now seat.old).page.value }
-    requires layout { layout.now ≡ (C.table_key table.now seat.old).layout }
+    requires page { task.now.page.now ≡ (C.table_key table.now seat.old).page.value }
+    requires layout { task.now.layout.now ≡ (C.table_key table.now seat.old).layout }
     requires fit { IsFit (C.table_key table.now seat.old) }
-    requires lies { IsFor page.now layout.now }
-    requires piece { piece < pieces_of layout.now.bands }
-    requires phase { phase_of layout.now.bands piece ≡ 0 }
-    requires may { C.may_fill table.now seat.old piece }
-    requires zones { most_rows layout.now 0 * per_row layout.now 0 ≤ length zones.old }
-    requires workspace { Serves workspace.old page.now }
-    ensures filled { C.filled table.now seat.old seat.new piece }
+    requires lies { IsFor task.now.page.now task.now.layout.now }
+    requires piece { task.now.piece < pieces_of task.now.layout.now.bands }
+    requires phase { phase_of task.now.layout.now.bands task.now.piece ≡ 0 }
+    requires may { C.may_fill table.now seat.old task.now.piece }
+    requires zones { most_rows task.now.layout.now 0 * per_row task.now.layout.now 0 ≤ length
+        zones.old }
+    requires workspace { Serves workspace.old task.now.page.now }
+    ensures filled { C.filled table.now seat.old seat.new task.now.piece }
     ensures zones { length zones.new ≡ length zones.old }
     ensures workspace { workspace.new ≡ workspace.old }
 {
-    let rows = rows_of(layout.bands(), piece);
+    let layout = task.layout;
+    let rows = rows_of(layout.bands(), task.piece);
     let count = rows.count as usize * layout.row_values(0) as usize;
     let zones = &mut zones[..count];
-    make_zones(page, rows, zones, workspace);
-    table.put_values(seat, piece, zones);
+    make_zones(task.page, rows, zones, workspace);
+    table.put_values(seat, task.piece, zones);
 }
 
 /// The marks of a band, from the zones of its rows and of the row below it.
 pub(crate) fn fill_marks<S, C: CellSink<S>>(
     table: &C,
     seat: &mut S,
-    page: &Page,
-    layout: &Layout,
-    piece: u32,
+    task: &PieceTask<'_>,
     zones: &mut [u8],
     marks: &mut [u8],
 )
-    requires page { page.now ≡ (C.table_key table.now seat.old).page.value }
-    requires layout { layout.now ≡ (C.table_key table.now seat.old).layout }
+    requires page { task.now.page.now ≡ (C.table_key table.now seat.old).page.value }
+    requires layout { task.now.layout.now ≡ (C.table_key table.now seat.old).layout }
     requires fit { IsFit (C.table_key table.now seat.old) }
-    requires lies { IsFor page.now layout.now }
-    requires piece { piece < pieces_of layout.now.bands }
-    requires phase { phase_of layout.now.bands piece ≡ 1 }
-    requires may { C.may_fill table.now seat.old piece }
-    requires known { (n : ℕ) → is_need layout.now.bands piece n ≡ true
-        → C.knows table.now seat.old n }
-    requires zones { most_rows layout.now 1 * per_row layout.now 0 ≤ length zones.old }
-    requires marks { most_rows layout.now 0 * per_row layout.now 1 ≤ length marks.old }
-    ensures filled { C.filled table.now seat.old seat.new piece }
+    requires lies { IsFor task.now.page.now task.now.layout.now }
+    requires piece { task.now.piece < pieces_of task.now.layout.now.bands }
+    requires phase { phase_of task.now.layout.now.bands task.now.piece ≡ 1 }
+    requires may { C.may_fill table.now seat.old task.now.piece }
+    requires known { (n : ℕ) → is_need task.now.layout.now.bands task.now.piece n ≡ true → C.knows
+        table.now seat.old n }
+    requires zones { most_rows task.now.layout.now 1 * per_row task.now.layout.now 0 ≤ length
+        zones.old }
+    requires marks { most_rows task.now.layout.now 0 * per_row task.now.layout.now 1 ≤ length
+        marks.old }
+    ensures filled { C.filled table.now seat.old seat.new task.now.piece }
     ensures zones { length zones.new ≡ length zones.old }
     ensures marks { length marks.new ≡ length marks.old }
 {
-    let rows = rows_of(layout.bands(), piece);
+    let layout = task.layout;
+    let rows = rows_of(layout.bands(), task.piece);
     let stored = rows_below(layout.bands(), rows);
     let wide = layout.row_values(0) as usize;
     let zones = &mut zones[..stored.count as usize * wide];
     read_rows(table, seat, layout, 0, stored, zones);
     let marks = &mut marks[..rows.count as usize * wide];
-    make_marks(page, rows, stored, zones, marks);
-    table.put_values(seat, piece, marks);
+    make_marks(task.page, rows, stored, zones, marks);
+    table.put_values(seat, task.piece, marks);
 }
 
 /// The column answers of a band, from the marks of its rows and of the rows within reach.
 pub(crate) fn fill_answers<S, C: CellSink<S>>(
     table: &C,
     seat: &mut S,
-    page: &Page,
-    layout: &Layout,
-    piece: u32,
+    task: &PieceTask<'_>,
     marks: &mut [u8],
     answers: &mut [u16],
 )
-    requires page { page.now ≡ (C.table_key table.now seat.old).page.value }
-    requires layout { layout.now ≡ (C.table_key table.now seat.old).layout }
+    requires page { task.now.page.now ≡ (C.table_key table.now seat.old).page.value }
+    requires layout { task.now.layout.now ≡ (C.table_key table.now seat.old).layout }
     requires fit { IsFit (C.table_key table.now seat.old) }
-    requires lies { IsFor page.now layout.now }
-    requires piece { piece < pieces_of layout.now.bands }
-    requires phase { phase_of layout.now.bands piece ≡ 2 }
-    requires may { C.may_fill table.now seat.old piece }
-    requires known { (n : ℕ) → is_need layout.now.bands piece n ≡ true
-        → C.knows table.now seat.old n }
-    requires marks { most_rows layout.now (2 * halo layout.now.bands.reach2)
-        * per_row layout.now 1 ≤ length marks.old }
-    requires answers { most_rows layout.now 0 * per_row layout.now 2 ≤ length answers.old }
-    ensures filled { C.filled table.now seat.old seat.new piece }
+    requires lies { IsFor task.now.page.now task.now.layout.now }
+    requires piece { task.now.piece < pieces_of task.now.layout.now.bands }
+    requires phase { phase_of task.now.layout.now.bands task.now.piece ≡ 2 }
+    requires may { C.may_fill table.now seat.old task.now.piece }
+    requires known { (n : ℕ) → is_need task.now.layout.now.bands task.now.piece n ≡ true → C.knows
+        table.now seat.old n }
+    requires marks { most_rows task.now.layout.now (2 * halo task.now.layout.now.bands.reach2) *
+        per_row task.now.layout.now 1 ≤ length marks.old }
+    requires answers { most_rows task.now.layout.now 0 * per_row task.now.layout.now 2 ≤ length
+        answers.old }
+    ensures filled { C.filled table.now seat.old seat.new task.now.piece }
     ensures marks { length marks.new ≡ length marks.old }
     ensures answers { length answers.new ≡ length answers.old }
 {
-    let rows = rows_of(layout.bands(), piece);
+    let layout = task.layout;
+    let rows = rows_of(layout.bands(), task.piece);
     let stored = rows_near(layout.bands(), rows);
     let marks = &mut marks[..stored.count as usize * layout.row_values(1) as usize];
     read_rows(table, seat, layout, 1, stored, marks);
     let answers = &mut answers[..rows.count as usize * layout.row_values(2) as usize];
-    make_answers(page, rows, stored, marks, answers);
-    table.put_values(seat, piece, answers);
+    make_answers(task.page, rows, stored, marks, answers);
+    table.put_values(seat, task.piece, answers);
 }
 
 /// The new tints of a band, from its zones and its column answers.
 pub(crate) fn fill_tints<S, C: CellSink<S>>(
     table: &C,
     seat: &mut S,
-    page: &Page,
-    layout: &Layout,
-    piece: u32,
+    task: &PieceTask<'_>,
     zones: &mut [u8],
     answers: &mut [u16],
     tints: &mut [u16],
     workspace: &mut RowBuffers,
 )
-    requires page { page.now ≡ (C.table_key table.now seat.old).page.value }
-    requires layout { layout.now ≡ (C.table_key table.now seat.old).layout }
+    requires page { task.now.page.now ≡ (C.table_key table.now seat.old).page.value }
+    requires layout { task.now.layout.now ≡ (C.table_key table.now seat.old).layout }
     requires fit { IsFit (C.table_key table.now seat.old) }
-    requires lies { IsFor page.now layout.now }
-    requires piece { piece < pieces_of layout.now.bands }
-    requires phase { phase_of layout.now.bands piece ≡ 3 }
-    requires may { C.may_fill table.now seat.old piece }
-    requires known { (n : ℕ) → is_need layout.now.bands piece n ≡ true
-        → C.knows table.now seat.old n }
-    requires zones { most_rows layout.now 0 * per_row layout.now 0 ≤ length zones.old }
-    requires answers { most_rows layout.now 0 * per_row layout.now 2 ≤ length answers.old }
-    requires tints { most_rows layout.now 0 * per_row layout.now 3 ≤ length tints.old }
-    requires workspace { Serves workspace.old page.now }
-    ensures filled { C.filled table.now seat.old seat.new piece }
+    requires lies { IsFor task.now.page.now task.now.layout.now }
+    requires piece { task.now.piece < pieces_of task.now.layout.now.bands }
+    requires phase { phase_of task.now.layout.now.bands task.now.piece ≡ 3 }
+    requires may { C.may_fill table.now seat.old task.now.piece }
+    requires known { (n : ℕ) → is_need task.now.layout.now.bands task.now.piece n ≡ true → C.knows
+        table.now seat.old n }
+    requires zones { most_rows task.now.layout.now 0 * per_row task.now.layout.now 0 ≤ length
+        zones.old }
+    requires answers { most_rows task.now.layout.now 0 * per_row task.now.layout.now 2 ≤ length
+        answers.old }
+    requires tints { most_rows task.now.layout.now 0 * per_row task.now.layout.now 3 ≤ length
+        tints.old }
+    requires workspace { Serves workspace.old task.now.page.now }
+    ensures filled { C.filled table.now seat.old seat.new task.now.piece }
     ensures zones { length zones.new ≡ length zones.old }
     ensures answers { length answers.new ≡ length answers.old }
     ensures tints { length tints.new ≡ length tints.old }
     ensures workspace { workspace.new ≡ workspace.old }
 {
-    let rows = rows_of(layout.bands(), piece);
+    let layout = task.layout;
+    let rows = rows_of(layout.bands(), task.piece);
     let count = rows.count as usize;
     let zones = &mut zones[..count * layout.row_values(0) as usize];
     read_rows(table, seat, layout, 0, rows, zones);
     let answers = &mut answers[..count * layout.row_values(2) as usize];
     read_rows(table, seat, layout, 2, rows, answers);
     let tints = &mut tints[..count * layout.row_values(3) as usize];
-    make_tints(page, rows, zones, answers, tints, workspace);
-    table.put_values(seat, piece, tints);
+    make_tints(task.page, rows, zones, answers, tints, workspace);
+    table.put_values(seat, task.piece, tints);
 }
 
 /// A piece of any phase. The buffers are large enough for any piece of the layout.
 pub(crate) fn fill<S, C: CellSink<S>>(
     table: &C,
     seat: &mut S,
-    page: &Page,
-    layout: &Layout,
-    piece: u32,
+    task: &PieceTask<'_>,
     zones: &mut [u8],
     marks: &mut [u8],
     answers: &mut [u16],
     tints: &mut [u16],
     workspace: &mut RowBuffers,
 )
-    requires page { page.now ≡ (C.table_key table.now seat.old).page.value }
-    requires layout { layout.now ≡ (C.table_key table.now seat.old).layout }
+    requires page { task.now.page.now ≡ (C.table_key table.now seat.old).page.value }
+    requires layout { task.now.layout.now ≡ (C.table_key table.now seat.old).layout }
     requires fit { IsFit (C.table_key table.now seat.old) }
-    requires piece { piece < pieces_of layout.now.bands }
-    requires may { C.may_fill table.now seat.old piece }
-    requires known { (n : ℕ) → is_need layout.now.bands piece n ≡ true
-        → C.knows table.now seat.old n }
-    requires workspace { IsWorkspace layout.now workspace.old (length zones.old) (length marks.old)
-        (length answers.old) (length tints.old) }
-    ensures filled { C.filled table.now seat.old seat.new piece }
+    requires piece { task.now.piece < pieces_of task.now.layout.now.bands }
+    requires may { C.may_fill table.now seat.old task.now.piece }
+    requires known { (n : ℕ) → is_need task.now.layout.now.bands task.now.piece n ≡ true → C.knows
+        table.now seat.old n }
+    requires workspace { IsWorkspace task.now.layout.now workspace.old (length zones.old)
+        (length marks.old) (length answers.old) (length tints.old) }
+    ensures filled { C.filled table.now seat.old seat.new task.now.piece }
     ensures zones { length zones.new ≡ length zones.old }
     ensures marks { length marks.new ≡ length marks.old }
     ensures answers { length answers.new ≡ length answers.old }
     ensures tints { length tints.new ≡ length tints.old }
     ensures workspace { workspace.new ≡ workspace.old }
 {
-    match piece / layout.bands().count {
-        0 => fill_zones(table, seat, page, layout, piece, zones, workspace),
-        1 => fill_marks(table, seat, page, layout, piece, zones, marks),
-        2 => fill_answers(table, seat, page, layout, piece, marks, answers),
-        _ => fill_tints(
-            table, seat, page, layout, piece, zones, answers, tints, workspace,
-        ),
+    match task.piece / task.layout.bands().count {
+        0 => fill_zones(table, seat, task, zones, workspace),
+        1 => fill_marks(table, seat, task, zones, marks),
+        2 => fill_answers(table, seat, task, marks, answers),
+        _ => fill_tints(table, seat, task, zones, answers, tints, workspace),
     }
 }

@@ -9,7 +9,7 @@ ghost use Rattle.page_model.specs.Page.{height, plates, width};
 ghost use Rattle.page_model.specs.Reach.{page_reach};
 ghost use Rattle.band_pieces.specs.Workspace.{Memory};
 
-use crate::fills::fill;
+use crate::fills::{PieceTask, fill};
 use crate::sinks::CellSink;
 use band_claims::{Maker, Pass, Shared};
 use band_core::layout::Layout;
@@ -94,12 +94,15 @@ impl Scratch {
         ensures scratch { self.new ≡ self.old }
         ensures filled { C.filled table.now seat.old seat.new piece }
     {
+        let task = PieceTask {
+            page,
+            layout: &self.layout,
+            piece,
+        };
         fill(
             table,
             seat,
-            page,
-            &self.layout,
-            piece,
+            &task,
             self.zones.as_mut_slice(),
             self.marks.as_mut_slice(),
             self.answers.as_mut_slice(),

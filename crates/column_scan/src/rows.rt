@@ -8,7 +8,7 @@ ghost use Rattle.column_scan.specs.Sweep.{above_of, column_of, raised, slot, IsR
 use crate::codes::{above, nearer};
 use crate::lifts::{LIFTED, span_up};
 use crate::looks::{first_after, last_before, pass_down, pass_up};
-use crate::spans::{SPAN, enter, span_down};
+use crate::spans::{SPAN, Samples, enter, span_down};
 use page_model::marks::Marks;
 use page_model::steps::Steps;
 use std::sync::ledger::Ledger;
@@ -86,7 +86,8 @@ pub(crate) fn row_down<L: Ledger>(
     let mut x = 0;
     while x < pairs {
         let count = (pairs - x).min(SPAN);
-        span_down(marks, columns, rows, k, x, count, r, reach2, out, steps);
+        let span = Samples { k, r, x, count };
+        span_down(marks, columns, rows, span, reach2, out, steps);
         x += count;
     }
     let x2 = columns - 1;

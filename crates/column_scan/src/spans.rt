@@ -99,46 +99,53 @@ fn pairs_down<L: Ledger>(
     }
 }
 
-/// Writes the columns of some samples, from sample x on, in row k + 1 of the asked rows, from row k. They are worked
-/// out in a list of their own: both rows are parts of one list, and while one of them is written the other can't be
-/// read by slices.
+/// Some samples of a row that are carried to the next row together.
+#[derive(Clone, Copy, Drop)]
+pub(crate) struct Samples {
+    /// The row's number among the asked rows, and among those of the marks.
+    pub(crate) k: u32,
+    pub(crate) r: u32,
+    /// The first of the samples, and how many they are.
+    pub(crate) x: u32,
+    pub(crate) count: u32,
+}
+
+/// Writes the columns of some samples in row k + 1 of the asked rows, from row k. They are worked out in a list of
+/// their own: both rows are parts of one list, and while one of them is written the other can't be read by slices.
 pub(crate) fn span_down<L: Ledger>(
     marks: &Marks,
     columns: u32,
     rows: u32,
-    k: u32,
-    x: u32,
-    count: u32,
-    r: u32,
+    span: Samples,
     reach2: u32,
     out: &mut [u16],
     steps: &mut Steps<L>,
 )
     requires columns { columns + 1 ≡ 2 * marks.now.wide }
-    requires inside { x + count < marks.now.wide }
-    requires few { count ≤ 256 }
-    requires row { r + 1 < stored_rows marks.now }
+    requires inside { span.x + span.count < marks.now.wide }
+    requires few { span.count ≤ 256 }
+    requires row { span.r + 1 < stored_rows marks.now }
     requires reach { reach2 ≤ most_reach }
-    requires k { k + 1 < rows }
+    requires k { span.k + 1 < rows }
     requires rows { rows ≤ most_side }
     requires out { length out.old ≡ rows * columns }
     requires above { (x2 : ℕ) → x2 < columns
-        → slot out.old columns k x2 ≡ above_of marks.now x2 reach2 r }
+        → slot out.old columns span.k x2 ≡ above_of marks.now x2 reach2 span.r }
     ensures len { length out.new ≡ length out.old }
-    ensures each { (j : ℕ) → j < 2 * count
-        → slice_index out.new ((k + 1) * columns + 2 * x + j)
-        ≡ above_of marks.now (2 * x + j) reach2 (r + 1) }
-    ensures before { (i : ℕ) → i < (k + 1) * columns + 2 * x
+    ensures each { (j : ℕ) → j < 2 * span.count
+        → slice_index out.new ((span.k + 1) * columns + 2 * span.x + j)
+        ≡ above_of marks.now (2 * span.x + j) reach2 (span.r + 1) }
+    ensures before { (i : ℕ) → i < (span.k + 1) * columns + 2 * span.x
         → slice_index out.new i ≡ slice_index out.old i }
-    ensures after { (i : ℕ) → (k + 1) * columns + 2 * x + 2 * count ≤ i
+    ensures after { (i : ℕ) → (span.k + 1) * columns + 2 * span.x + 2 * span.count ≤ i
         → slice_index out.new i ≡ slice_index out.old i }
-    ensures steps { steps.new ≡ steps.old + 2 * count }
+    ensures steps { steps.new ≡ steps.old + 2 * span.count }
 {
     let _valid = marks.rows();
-    let long = 2 * count as usize;
+    let long = 2 * span.count as usize;
     let mut workspace = [0u16; 2 * SPAN as usize];
     let codes = &mut workspace[..long];
-    codes.copy_from_slice(codes_of(out, columns, k, 2 * x, long));
-    pairs_down(marks, x, count, r, reach2, codes, steps);
-    put_codes(out, columns, k + 1, 2 * x, codes);
+    codes.copy_from_slice(codes_of(out, columns, span.k, 2 * span.x, long));
+    pairs_down(marks, span.x, span.count, span.r, reach2, codes, steps);
+    put_codes(out, columns, span.k + 1, 2 * span.x, codes);
 }

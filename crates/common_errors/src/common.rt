@@ -27,16 +27,18 @@ pub enum CommonError {
     Memory,
 }
 
-/// The status that a program exits with after an error, one of `crate::statuses`.
-pub fn status(error: &CommonError) -> u8
-    ensures { result ≡ status_of error.now }
-{
-    match error {
-        CommonError::Usage => USAGE,
-        CommonError::Job(_) | CommonError::NoDetails(_) => JOB_REFUSED,
-        CommonError::Plate(_, _) | CommonError::Page(_) => PAGE_REFUSED,
-        CommonError::Read(_) => NOT_READ,
-        CommonError::Write(_) => NOT_WRITTEN,
-        CommonError::Memory => OUT_OF_MEMORY,
+impl CommonError {
+    /// The status that a program exits with after this error, one of `crate::statuses`.
+    pub fn exit_status(&self) -> u8
+        ensures { result ≡ status_of self.now }
+    {
+        match self {
+            CommonError::Usage => USAGE,
+            CommonError::Job(_) | CommonError::NoDetails(_) => JOB_REFUSED,
+            CommonError::Plate(_, _) | CommonError::Page(_) => PAGE_REFUSED,
+            CommonError::Read(_) => NOT_READ,
+            CommonError::Write(_) => NOT_WRITTEN,
+            CommonError::Memory => OUT_OF_MEMORY,
+        }
     }
 }

@@ -9,24 +9,26 @@ use page_model::page::PageFault;
 use pgm_plates::plate::PlateFault;
 use ps_tokens::faults::JobFault;
 
-/// The line that is printed for an error, its LF included: fewer than 160 bytes. It allocates nothing. The form is
-/// this project's own.
-pub fn fault_line(error: &CommonError) -> Line
-    ensures { result ≡ line_of error.now }
-{
-    short_line(error)
-}
+impl CommonError {
+    /// The line that is printed for this error, its LF included: fewer than 160 bytes. It allocates nothing. The form
+    /// is this project's own.
+    pub fn line(&self) -> Line
+        ensures { result ≡ line_of self.now }
+    {
+        short_line(self)
+    }
 
-/// The line of an error of one page of many: the page's number, counted from 0, and the error's line.
-pub fn numbered_line(page: u32, error: &CommonError) -> Line
-    ensures { result ≡ numbered_line_of page error.now }
-{
-    let mut reported = Line::new();
-    reported.push(b"page ");
-    reported.push_number(page as u64);
-    reported.push(b": ");
-    reported.push(short_line(error).as_slice());
-    reported
+    /// The line of this error of one page of many: the page's number, counted from 0, and the error's line.
+    pub fn numbered_line(&self, page: u32) -> Line
+        ensures { result ≡ numbered_line_of page self.now }
+    {
+        let mut reported = Line::new();
+        reported.push(b"page ");
+        reported.push_number(page as u64);
+        reported.push(b": ");
+        reported.push(short_line(self).as_slice());
+        reported
+    }
 }
 
 // The line of an error, short enough for a page's number before it.

@@ -2,7 +2,7 @@
 #![tactic(auto)]
 
 pub mod common;
-pub mod fault_line;
+mod fault_line;
 mod kind_names;
 pub mod line;
 pub mod statuses;

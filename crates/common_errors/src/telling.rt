@@ -2,8 +2,7 @@
 
 ghost use Rattle.common_errors.specs.Telling.{KeepsFiles, Refuses, TellsText};
 
-use crate::common::{CommonError, status};
-use crate::fault_line::fault_line;
+use crate::common::CommonError;
 use crate::line::Line;
 use outside::rack::Rack;
 
@@ -19,6 +18,6 @@ pub fn tell_line<R: Rack>(rack: &mut R, line: &Line)
 pub fn refuse<R: Rack>(rack: &mut R, error: &CommonError) -> u8
     ensures { Refuses error.now (R.state rack.old) (R.state rack.new) result }
 {
-    tell_line(rack, &fault_line(error));
-    status(error)
+    tell_line(rack, &error.line());
+    error.exit_status()
 }

@@ -11,4 +11,4 @@ mod row;
 
 pub use field::Field;
 pub use reach::Reach;
-pub use row::draw_row;
+pub use row::{draw_column, draw_row};

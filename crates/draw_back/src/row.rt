@@ -1,4 +1,4 @@
-ghost use Rattle.std.specs.Prelude.{◌≡◌, ◌+◌, ◌*◌, ◌<◌, ◌≤◌, ℕ, length, slice_index};
+ghost use Rattle.std.specs.Prelude.{◌≡◌, ◌≢◌, ◌+◌, ◌*◌, ◌<◌, ◌≤◌, ℕ, length, slice_index};
 ghost use Rattle.page_model.specs.Limits.{most_sheet_side};
 ghost use Rattle.draw_back.specs.Fields.{entry, kept};
 
@@ -38,4 +38,21 @@ pub fn draw_row(field: &Field, reach: Reach, y: usize, out: &mut [u16])
     for b in 0..width.div_ceil(BLOCK) {
         draw_block(field, reach, y, span_of(b, width), out);
     }
+}
+
+/// Writes the new tint of column x of row y, where the old one stands; all else is as it was.
+pub fn draw_column(field: &Field, reach: Reach, y: usize, x: usize, out: &mut [u16])
+    requires row { y < field.now.tall }
+    requires column { x < field.now.wide }
+    requires out { length out.old ≡ field.now.wide }
+    requires old { slice_index out.old x ≡ entry field.now.tints field.now.wide x y }
+    ensures there { slice_index out.new x ≡ kept field.now reach.limit x y }
+    ensures others { (i : ℕ) → i ≢ x → slice_index out.new i ≡ slice_index out.old i }
+{
+    let width = field.width();
+    let span = Span {
+        from: x,
+        to: (x + 1).min(width),
+    };
+    draw_block(field, reach, y, span, out);
 }

@@ -111,10 +111,8 @@ fn level(rt: &impl Abort, alloc: Global, header: &str, count: usize) -> Vec<u8> 
 
 // The samples of the plate of a sheet, or why it is refused.
 fn sample_count(alloc: Global, tray: &mut MemTray) -> Result<usize, PlateError> {
-    match read_plate_within(alloc, tray, "one", Bounds::Sheet) {
-        Ok(plate) => Ok(plate.samples.len()),
-        Err(error) => Err(error),
-    }
+    let plate = read_plate_within(alloc, tray, "one", Bounds::Sheet)?;
+    Ok(plate.samples.len())
 }
 
 fn read_bytes(rt: &impl Abort, alloc: Global, bytes: &[u8]) -> Result<usize, PlateError> {

@@ -7,10 +7,9 @@ use std::process::Abort;
 
 // The width of the plate of that number, none where there is none, or why it is refused.
 fn width_by(alloc: Global, tray: &mut MemTray, page: u32) -> Result<Option<u32>, PlateError> {
-    match read_page(alloc, tray, "one", page) {
-        Ok(Some(plate)) => Ok(Some(plate.width)),
-        Ok(None) => Ok(None),
-        Err(error) => Err(error),
+    match read_page(alloc, tray, "one", page)? {
+        Some(plate) => Ok(Some(plate.width)),
+        None => Ok(None),
     }
 }
 

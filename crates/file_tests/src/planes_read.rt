@@ -20,17 +20,14 @@ fn ends_of(plane: &Plane) -> Option<(u16, u16)> {
 type Ends = Result<Option<(u16, u16)>, PlateFault>;
 
 fn plane_by(alloc: Global, tray: &mut MemTray) -> Result<Option<(u16, u16)>, PlateError> {
-    match read_plane(alloc, tray, "one") {
-        Ok(plane) => Ok(ends_of(&plane)),
-        Err(error) => Err(error),
-    }
+    let plane = read_plane(alloc, tray, "one")?;
+    Ok(ends_of(&plane))
 }
 
 fn page_by(alloc: Global, tray: &mut MemTray, page: u32) -> Result<Option<(u16, u16)>, PlateError> {
-    match read_page_plane(alloc, tray, "one", page) {
-        Ok(Some(plane)) => Ok(ends_of(&plane)),
-        Ok(None) => Ok(None),
-        Err(error) => Err(error),
+    match read_page_plane(alloc, tray, "one", page)? {
+        Some(plane) => Ok(ends_of(&plane)),
+        None => Ok(None),
     }
 }
 

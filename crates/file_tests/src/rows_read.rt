@@ -19,18 +19,10 @@ fn read_parts(
     requires first { length first.old ≤ 6 }
     requires second { length second.old ≤ 6 }
 {
-    let plate = match begin_plate(tray, "one", Bounds::Sheet) {
-        Ok(plate) => plate,
-        Err(error) => return Err(error),
-    };
-    match read_rows(tray, plate, 0, first, piece) {
-        Ok(()) => {}
-        Err(error) => return Err(error),
-    }
-    match read_rows(tray, plate, first.len() as u64, second, piece) {
-        Ok(()) => end_plate(tray, plate),
-        Err(error) => Err(error),
-    }
+    let plate = begin_plate(tray, "one", Bounds::Sheet)?;
+    read_rows(tray, plate, 0, first, piece)?;
+    read_rows(tray, plate, first.len() as u64, second, piece)?;
+    end_plate(tray, plate)
 }
 
 // Judges the six samples of a plate, some of them at first, and then the rest.
@@ -38,18 +30,10 @@ fn judge_six(tray: &mut MemTray, first: u64, piece: &mut [u8]) -> Result<(), Pla
     requires workspace { 2 ≤ length piece.old }
     requires first { first ≤ 6 }
 {
-    let plate = match begin_plate(tray, "one", Bounds::Sheet) {
-        Ok(plate) => plate,
-        Err(error) => return Err(error),
-    };
-    match judge_rows(tray, plate, 0, first, piece) {
-        Ok(()) => {}
-        Err(error) => return Err(error),
-    }
-    match judge_rows(tray, plate, first, 6 - first, piece) {
-        Ok(()) => end_plate(tray, plate),
-        Err(error) => Err(error),
-    }
+    let plate = begin_plate(tray, "one", Bounds::Sheet)?;
+    judge_rows(tray, plate, 0, first, piece)?;
+    judge_rows(tray, plate, first, 6 - first, piece)?;
+    end_plate(tray, plate)
 }
 
 // The six samples of a plate, some of them read at first, and then the rest.
@@ -61,10 +45,8 @@ fn read_six(tray: &mut MemTray, first: usize, piece: usize) -> Result<[u16; 6], 
     let mut samples = [0u16; 6];
     let mut bytes = [0u8; 64];
     let (top, rest) = samples.split_at_mut(first);
-    match read_parts(tray, top, rest, &mut bytes[..piece]) {
-        Ok(()) => Ok(samples),
-        Err(error) => Err(error),
-    }
+    read_parts(tray, top, rest, &mut bytes[..piece])?;
+    Ok(samples)
 }
 
 // Files of two by three samples: of a header of 9 bytes and one byte a sample, and of one of 11 and two.

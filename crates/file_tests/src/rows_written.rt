@@ -28,18 +28,10 @@ fn write_parts(
         maxval,
     };
     let mut piece = [0u8; 4];
-    match begin_image(rack, "out", header) {
-        Ok(()) => {}
-        Err(DeviceError) => return Err(DeviceError),
-    }
-    match write_rows(rack, header, first, &mut piece) {
-        Ok(()) => {}
-        Err(DeviceError) => return Err(DeviceError),
-    }
-    match write_rows(rack, header, second, &mut piece) {
-        Ok(()) => end_image(rack),
-        Err(DeviceError) => Err(DeviceError),
-    }
+    begin_image(rack, "out", header)?;
+    write_rows(rack, header, first, &mut piece)?;
+    write_rows(rack, header, second, &mut piece)?;
+    end_image(rack)
 }
 
 fn are_within(tints: &[u16], maxval: u32) -> bool

@@ -39,10 +39,8 @@ impl ManyPages {
         requires { length bytes ≤ longest_job }
         ensures { IsManyPages bytes result }
     {
-        match read_run(alloc, bytes.as_slice()) {
-            Ok(run) => Ok(ManyPages { bytes, run }),
-            Err(error) => Err(error),
-        }
+        let run = read_run(alloc, bytes.as_slice())?;
+        Ok(ManyPages { bytes, run })
     }
 
     /// How many pages there are.

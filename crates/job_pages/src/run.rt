@@ -44,10 +44,8 @@ pub fn page_count(alloc: Global, bytes: &[u8]) -> Result<u32, RunError>
     requires { length bytes.now ≤ longest_job }
     ensures { GivesRun result (count_of bytes.now) }
 {
-    match read_run(alloc, bytes) {
-        Ok(run) => Ok(run.shown.len() as u32),
-        Err(error) => Err(error),
-    }
+    let run = read_run(alloc, bytes)?;
+    Ok(run.shown.len() as u32)
 }
 
 /// Reads the statements of a job of many pages, with the errors of `page_count`.

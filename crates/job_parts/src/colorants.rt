@@ -46,19 +46,16 @@ fn colorants_in(
         let error = first_error objects.now keys in
         IfOk result (λ inks. inks ≡ inks_unless place error (inks_of objects.now keys)) }
 {
-    let keys = match last_keys(alloc, objects, place) {
-        Ok(keys) => keys,
-        Err(OutOfMemory) => return Err(OutOfMemory),
-    };
+    let keys = last_keys(alloc, objects, place)?;
     match first_error(objects, &keys) {
         Some(error) => Ok(Err(EntryError {
             place,
             fault: error.fault,
         })),
-        None => match inks_of(alloc, objects, &keys) {
-            Ok(inks) => Ok(Ok(List::from_vec(inks))),
-            Err(OutOfMemory) => Err(OutOfMemory),
-        },
+        None => {
+            let inks = inks_of(alloc, objects, &keys)?;
+            Ok(Ok(List::from_vec(inks)))
+        }
     }
 }
 
@@ -82,10 +79,7 @@ fn inks_of(alloc: Global, objects: &ObjectList, keys: &[u32]) -> Result<Vec<Ink>
     let mut inks = Vec::new(alloc);
     for key in keys {
         let name = name_at(objects.as_slice(), *key as usize);
-        match put_ink(alloc, &mut inks, name, ink_details_of(objects, *key)) {
-            Ok(()) => {}
-            Err(OutOfMemory) => return Err(OutOfMemory),
-        }
+        put_ink(alloc, &mut inks, name, ink_details_of(objects, *key))?;
     }
     Ok(inks)
 }
@@ -104,10 +98,7 @@ fn put_ink(
         Ok(None) => return Ok(()),
         Err(_) => return Ok(()),
     };
-    let name = match copy_name(alloc, name) {
-        Ok(name) => name,
-        Err(OutOfMemory) => return Err(OutOfMemory),
-    };
+    let name = copy_name(alloc, name)?;
     let ink = Ink {
         name,
         density: details.density,

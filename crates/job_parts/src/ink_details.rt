@@ -94,13 +94,13 @@ fn ink_details_from(
     ensures { result ≡ ink_details_from dict at density kind }
 {
     match density {
-        Ok(given) => match kind {
-            Ok(kind) => match given {
+        Ok(given) => {
+            let kind = kind?;
+            match given {
                 Some(density) => Ok(Some(InkDetails { density, kind })),
                 None => at_place(dict, at, Err(FaultKind::MissingKey)),
-            },
-            Err(error) => Err(error),
-        },
+            }
+        }
         Err(first) => match kind {
             Ok(_) => Err(first),
             Err(second) => Err(if second.place < first.place {

@@ -92,10 +92,7 @@ fn limits_of(alloc: Global, objects: &ObjectList, keys: &[u32]) -> Result<Vec<Li
     let mut limits = Vec::new(alloc);
     for key in keys {
         let name = name_at(objects.as_slice(), *key as usize);
-        match keep(alloc, &mut limits, name, step_of(objects, *key)) {
-            Ok(()) => {}
-            Err(OutOfMemory) => return Err(OutOfMemory),
-        }
+        keep(alloc, &mut limits, name, step_of(objects, *key))?;
     }
     Ok(limits)
 }
@@ -132,10 +129,7 @@ fn put_limit(
     ensures { OnOk result
         (limits.new.items ≡ limits.old.items ++ record { name = name.now; step = step } ∷ []) }
 {
-    let name = match copy_name(alloc, name) {
-        Ok(name) => name,
-        Err(OutOfMemory) => return Err(OutOfMemory),
-    };
+    let name = copy_name(alloc, name)?;
     match limits.push(Limit { name, step }) {
         Ok(()) => Ok(()),
         Err(_) => Err(OutOfMemory),
@@ -178,10 +172,8 @@ fn step_in(objects: &ObjectList, dict: u32) -> Result<Option<u32>, EntryError>
 fn step_by(value: &Body) -> Result<Option<u32>, FaultKind>
     ensures { result ≡ step_by value.now }
 {
-    match number_of(Key::StepLimit, value) {
-        Ok(number) => Ok(Some(number)),
-        Err(kind) => Err(kind),
-    }
+    let number = number_of(Key::StepLimit, value)?;
+    Ok(Some(number))
 }
 
 /// A copy of limits.
@@ -190,10 +182,7 @@ pub fn copy_of(alloc: Global, now: &LimitList) -> Result<LimitList, OutOfMemory>
 {
     let mut limits = Vec::new(alloc);
     for limit in now.as_slice() {
-        match put_limit(alloc, &mut limits, limit.name.as_slice(), limit.step) {
-            Ok(()) => {}
-            Err(OutOfMemory) => return Err(OutOfMemory),
-        }
+        put_limit(alloc, &mut limits, limit.name.as_slice(), limit.step)?;
     }
     Ok(List::from_vec(limits))
 }

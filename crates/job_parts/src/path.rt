@@ -65,13 +65,9 @@ impl Path {
     pub fn moveto(&mut self, x: i64, y: i64) -> Result<(), PathError>
         ensures { Draws result self.old self.new (moveto x y self.old) }
     {
-        match begin(&mut self.vertices, Point { x, y }) {
-            Ok(pen) => {
-                self.pen = Some(pen);
-                Ok(())
-            }
-            Err(error) => Err(error),
-        }
+        let pen = begin(&mut self.vertices, Point { x, y })?;
+        self.pen = Some(pen);
+        Ok(())
     }
 
     /// `rmoveto`: begins a subpath at the current point moved by `dx` and `dy` (PLRM3, section 8.2).
@@ -99,13 +95,9 @@ impl Path {
         let Some(pen) = self.pen else {
             return Err(PathError::Fault(FaultKind::NoCurrentPoint));
         };
-        match draw_line(&mut self.vertices, pen, Point { x, y }) {
-            Ok(pen) => {
-                self.pen = Some(pen);
-                Ok(())
-            }
-            Err(error) => Err(error),
-        }
+        let pen = draw_line(&mut self.vertices, pen, Point { x, y })?;
+        self.pen = Some(pen);
+        Ok(())
     }
 
     /// `rlineto`: adds a vertex at the current point moved by `dx` and `dy` (PLRM3, section 8.2). After `close` it
@@ -227,14 +219,12 @@ fn push_both(vertices: &mut Vec<Vertex>, one: Vertex, two: Vertex) -> Result<(),
         (λ _. vertices.new.items ≡ vertices.old.items) }
 {
     let len = vertices.len();
-    match push(vertices, one) {
-        Ok(()) => match push(vertices, two) {
-            Ok(()) => Ok(()),
-            Err(OutOfMemory) => {
-                vertices.truncate(len);
-                Err(OutOfMemory)
-            }
-        },
-        Err(OutOfMemory) => Err(OutOfMemory),
+    push(vertices, one)?;
+    match push(vertices, two) {
+        Ok(()) => Ok(()),
+        Err(OutOfMemory) => {
+            vertices.truncate(len);
+            Err(OutOfMemory)
+        }
     }
 }

@@ -149,10 +149,8 @@ fn details_in(
     let Some(place) = last(objects, dict, b"TrappingDetails") else {
         return Ok(Ok(None));
     };
-    match inks_at(alloc, objects, place) {
-        Ok(found) => Ok(named_details(place, found)),
-        Err(OutOfMemory) => Err(OutOfMemory),
-    }
+    let found = inks_at(alloc, objects, place)?;
+    Ok(named_details(place, found))
 }
 
 // Details that are named at a place.

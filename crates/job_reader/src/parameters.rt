@@ -49,10 +49,10 @@ fn limits_in(
     ensures { MayReplace result now.now (limits_after now.now objects.now dict) }
 {
     match last(objects, dict, b"ColorantZoneDetails") {
-        Some(_) => match zone_limits(alloc, now, objects, dict) {
-            Ok(limits) => Ok(Some(limits)),
-            Err(common_error) => Err(common_error),
-        },
+        Some(_) => {
+            let limits = zone_limits(alloc, now, objects, dict)?;
+            Ok(Some(limits))
+        }
         None => Ok(None),
     }
 }

@@ -102,14 +102,12 @@ fn job_at(alloc: Global, state: State) -> Result<Job, OutOfMemory>
         path: List::new(alloc),
         limits,
     };
-    match all_zones(alloc, first, zones, trapping) {
-        Ok(zones) => Ok(Job {
-            resolution,
-            zones,
-            details,
-        }),
-        Err(OutOfMemory) => Err(OutOfMemory),
-    }
+    let zones = all_zones(alloc, first, zones, trapping)?;
+    Ok(Job {
+        resolution,
+        zones,
+        details,
+    })
 }
 
 // A zone and then others, these as they are where Trapping is true or false.

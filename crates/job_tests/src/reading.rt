@@ -12,8 +12,6 @@ pub fn read(alloc: Global, bytes: &[u8]) -> Result<ObjectList, JobError>
     requires { length bytes.now ≤ longest_job }
     ensures { IfOk result (λ objects. AreObjects objects) }
 {
-    match tokens(alloc, bytes) {
-        Ok(found) => objects(alloc, bytes, &found),
-        Err(error) => Err(error),
-    }
+    let found = tokens(alloc, bytes)?;
+    objects(alloc, bytes, &found)
 }

@@ -6,15 +6,15 @@ ghost use Rattle.page_model.specs.Limits.{most_samples};
 ghost use Rattle.page_model.specs.Page.{plates};
 ghost use Rattle.keep_pages.specs.KeptPages.{kept_planes};
 
-use keepaway::RichBlack;
+use crate::uses::KeepUse;
 use page_model::page::Page;
 
 /// The planes of a page are in range afterwards, and as many as before.
-pub fn kept_planes_law(page: &Page, rich: &RichBlack)
-    ensures planes { All IsPlane (kept_planes page.now rich.now) }
+pub fn kept_planes_law(page: &Page, used: &KeepUse)
+    ensures planes { All IsPlane (kept_planes page.now used.now) }
     ensures samples { All (λ plane. plane.width * plane.height ≤ most_samples)
-        (kept_planes page.now rich.now) }
-    ensures count { length (kept_planes page.now rich.now) ≡ plates page.now }
+        (kept_planes page.now used.now) }
+    ensures count { length (kept_planes page.now used.now) ≡ plates page.now }
 {
     let _valid = page.plates();
 }

@@ -1,4 +1,4 @@
-//! A page under black with its inks drawn back: its planes and its report.
+//! A page with its inks drawn back under black, or its whites under colour: its planes and its report.
 #![tactic(auto)]
 
 mod counting;
@@ -6,5 +6,7 @@ pub mod laws;
 mod outcome;
 mod planes;
 mod report;
+mod uses;
 
 pub use outcome::{Kept, keep_page};
+pub use uses::KeepUse;

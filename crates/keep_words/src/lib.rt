@@ -3,4 +3,5 @@
 
 mod numbers;
 mod options;
+pub mod whites;
 pub mod words;

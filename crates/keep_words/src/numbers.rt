@@ -86,13 +86,12 @@ fn after_point(suffix: &[u8]) -> &[u8]
     }
 }
 
-/// The number that a word writes, in ten-thousandths, if it is at most so much.
-pub(crate) fn read_points(word: &str, most: u32) -> Option<u32>
+/// The number that the bytes of a word write, in ten-thousandths, if it is at most so much.
+pub(crate) fn read_points(bytes: &[u8], most: u32) -> Option<u32>
     requires { most ≤ 1000000 }
-    ensures value { result ≡ points_of most word.now }
+    ensures value { result ≡ points_of most bytes.now }
     ensures within { IfSome result (λ n. n ≤ most) }
 {
-    let bytes = word.as_bytes();
     let (whole, suffix) = bytes.split_at(digits_len(bytes));
     let value = SCALE * whole_value(whole) + fraction_of(after_point(suffix));
     if is_fraction(whole, suffix) && value <= most {

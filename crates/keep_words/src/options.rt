@@ -6,16 +6,16 @@ ghost use Rattle.std.specs.List.{list_all, list_any};
 ghost use Rattle.std.specs.Str.{bytes_eq};
 ghost use Rattle.plain_words.specs.Parts.{parts_of};
 ghost use Rattle.plain_words.specs.Plates.{names_of};
-ghost use Rattle.keep_words.specs.Words.{are_named as named_spec, are_options as options_spec, count_of as count_spec, is_key as key_spec, is_known as known_spec, options_of, rest_of as rest_spec, after_dashes as dashes_spec, value_after as value_spec, values_after};
+ghost use Rattle.keep_words.specs.Words.{are_named as named_spec, are_options as options_spec, ask_for_black as black_spec, ask_for_colour as colour_spec, count_of as count_spec, is_key as key_spec, is_known as known_spec, options_of, rest_of as rest_spec, after_dashes as dashes_spec, value_after as value_spec, values_after};
 
 use lists::list::List;
 use lists::memory::push;
-use lists::names::{NameList, OutOfMemory, copy_name};
+use lists::names::{NameList, OutOfMemory, copy_name, same_name};
 use plain_words::parts::plate_parts;
 use std::alloc::Global;
 
-// Two hyphens and more.
-fn is_key(word: &str) -> bool
+/// Two hyphens and more.
+pub(crate) fn is_key(word: &str) -> bool
     ensures { result ≡ key_spec word.now }
 {
     match word.as_bytes() {
@@ -28,7 +28,7 @@ fn is_key(word: &str) -> bool
 fn is_known(key: &str) -> bool
     ensures { result ≡ known_spec key.now }
 {
-    key == "--rich-black" || key == "--black-limit" || key == "--except"
+    key == "--rich-black" || key == "--black-limit" || key == "--except" || key == "--underprint"
 }
 
 // The words without the `--` that may end the options.
@@ -74,13 +74,30 @@ fn count_of(words: &[String], wanted: &str) -> usize
     }
 }
 
-/// Whether the options are those of the program, with one width and at most one limit.
+/// Whether the options ask for rich black: by one width and at most one limit.
+pub(crate) fn ask_for_black(words: &[String]) -> bool
+    ensures { result ≡ black_spec (options_of (map string_bytes words.now)) }
+{
+    count_of(words, "--rich-black") == 1
+        && count_of(words, "--black-limit") <= 1
+        && count_of(words, "--underprint") == 0
+}
+
+// Whether the options ask for underprints alone.
+fn ask_for_colour(words: &[String]) -> bool
+    ensures { result ≡ colour_spec (options_of (map string_bytes words.now)) }
+{
+    count_of(words, "--rich-black") == 0
+        && count_of(words, "--black-limit") == 0
+        && count_of(words, "--except") == 0
+        && 1 <= count_of(words, "--underprint")
+}
+
+/// Whether the options are those of the program, for one of its uses.
 pub(crate) fn are_options(words: &[String]) -> bool
     ensures { result ≡ options_spec (options_of (map string_bytes words.now)) }
 {
-    are_known(words)
-        && count_of(words, "--rich-black") == 1
-        && count_of(words, "--black-limit") <= 1
+    are_known(words) && (ask_for_black(words) || ask_for_colour(words))
 }
 
 /// The word after an option, where it first stands.
@@ -100,13 +117,16 @@ pub(crate) fn value_after<'a>(words: &'a [String], wanted: &str) -> Option<&'a s
     }
 }
 
-// Whether the name is that of a plate.
-fn is_plate_name(name: &str, plates: &[String]) -> bool
+/// Whether the name is that of a plate.
+pub(crate) fn is_plate_name(name: &[u8], plates: &[String]) -> bool
     ensures { result ≡ list_any (bytes_eq name.now)
         (names_of (map parts_of (map string_bytes plates.now))) }
 {
     match plates {
-        [first, rest @ ..] => name == plate_parts(first.as_str()).name || is_plate_name(name, rest),
+        [first, rest @ ..] => {
+            same_name(name, plate_parts(first.as_str()).name.as_bytes())
+                || is_plate_name(name, rest)
+        }
         [] => false,
     }
 }
@@ -120,7 +140,7 @@ pub(crate) fn are_named(words: &[String], plates: &[String]) -> bool
     match words {
         [key, value, rest @ ..] if is_key(key.as_str()) => {
             if key.as_str() == "--except" {
-                is_plate_name(value.as_str(), plates) && are_named(rest, plates)
+                is_plate_name(value.as_str().as_bytes(), plates) && are_named(rest, plates)
             } else {
                 are_named(rest, plates)
             }

@@ -1,25 +1,35 @@
-ghost use Rattle.std.specs.Prelude.{◌≡◌, ◌≤◌, IfOk, IfSome, codes, map, option_map, string_bytes};
+ghost use Rattle.std.specs.Prelude.{◌≡◌, ◌≤◌, List, IfOk, IfSome, codes, map, option_map, string_bytes};
 ghost use Rattle.std.specs.Option.{ForSome};
 ghost use Rattle.std.specs.Str.{bytes_eq};
 ghost use Rattle.plain_words.specs.Parts.{parts_of};
 ghost use Rattle.page_model.specs.Limits.{most_trap_width, scale};
-ghost use Rattle.keep_words.specs.Stored.{IsWithin, keep_in};
-ghost use Rattle.keep_words.specs.Words.{keep_of, keep_with as keep_spec, limit_in as limit_spec, options_of, reads_written as reads_spec, values_after, width_in as width_spec};
+ghost use Rattle.keep_words.specs.Stored.{AreNumbers, IsWithin, keep_in, used_in};
+ghost use Rattle.keep_words.specs.Words.{OptionWords, black_with as black_spec, keep_of, keep_with as keep_spec, limit_in as limit_spec, options_of, reads_written as reads_spec, used_by as used_spec, values_after, width_in as width_spec};
 
 use crate::numbers::read_points;
-use crate::options::{are_named, are_options, rest_of, spared_in, value_after};
+use crate::options::{are_named, are_options, ask_for_black, rest_of, spared_in, value_after};
+use crate::whites::are_whites;
 use lists::names::{NameList, OutOfMemory};
 use plain_words::plates::{are_plates, stand_together};
 use plain_words::written;
 use plain_words::written::Naming;
 use std::alloc::Global;
 
-/// The words of `trapkeep`: how inks are drawn back, the files that are read and written, and the words of the plates.
+/// What the words of `trapkeep` ask for.
+#[derive(Clone, Copy)]
+pub enum UseArgs {
+    /// Inks are drawn back under black: by which width, in ten-thousandths of a point, and from which share of full ink
+    /// on a pixel is black, in ten-thousandths.
+    Black { width: u32, limit: u32 },
+    /// Underprints are drawn back under colour.
+    Colour,
+}
+
+/// The words of `trapkeep`: what is drawn back, the files that are read and written, and the words of the plates.
 #[derive(Clone, Copy)]
 pub struct KeepArgs<'a> {
     pub options: &'a [String],
-    pub width: u32,
-    pub limit: u32,
+    pub used: UseArgs,
     pub job: &'a str,
     pub report: &'a str,
     pub plates: &'a [String],
@@ -31,7 +41,7 @@ fn width_in(word: Option<&str>) -> Option<u32>
     ensures narrow { IfSome result (λ n. n ≤ most_trap_width) }
 {
     match word {
-        Some(word) => read_points(word, 1_000_000),
+        Some(word) => read_points(word.as_bytes(), 1_000_000),
         None => None,
     }
 }
@@ -42,14 +52,45 @@ fn limit_in(word: Option<&str>) -> Option<u32>
     ensures share { IfSome result (λ n. n ≤ scale) }
 {
     match word {
-        Some(word) => read_points(word, 10_000),
+        Some(word) => read_points(word.as_bytes(), 10_000),
         None => Some(8500),
     }
 }
 
+// Rich black with the numbers that are known.
+fn black_with(width: Option<u32>, limit: Option<u32>) -> Option<UseArgs>
+    requires narrow { ForSome width (λ n. n ≤ most_trap_width) }
+    requires share { ForSome limit (λ n. n ≤ scale) }
+    ensures meaning { (options : List OptionWords) → option_map (λ used. used_in used options) result
+        ≡ black_spec width limit (values_after (codes "--except") options) }
+    ensures numbers { IfSome result AreNumbers }
+{
+    Some(UseArgs::Black {
+        width: width?,
+        limit: limit?,
+    })
+}
+
+// What the options ask for.
+fn used_by(words: &[String]) -> Option<UseArgs>
+    ensures meaning { option_map (λ used. used_in used (options_of (map string_bytes words.now))) result
+        ≡ used_spec (options_of (map string_bytes words.now)) }
+    ensures numbers { IfSome result AreNumbers }
+{
+    if ask_for_black(words) {
+        black_with(
+            width_in(value_after(words, "--rich-black")),
+            limit_in(value_after(words, "--black-limit")),
+        )
+    } else {
+        Some(UseArgs::Colour)
+    }
+}
+
 /// Reads the words after the program's name:
-/// `--rich-black WIDTH [--black-limit LIMIT] [--except NAME] ... JOB REPORT NAME:IN:OUT ...`. `None` where they are no
-/// command. The form is this project's own.
+/// `--rich-black W [--black-limit L] [--except NAME] ... JOB REPORT NAME:IN:OUT ...` or
+/// `--underprint NAME=W ... JOB REPORT NAME:IN:OUT ...`. `None` where they are no command. The form is this
+/// project's own.
 pub fn read_words(words: &[String]) -> Option<KeepArgs<'_>>
     ensures meaning { option_map keep_in result ≡ keep_of (map string_bytes words.now) }
     ensures limits { IfSome result IsWithin }
@@ -60,8 +101,7 @@ pub fn read_words(words: &[String]) -> Option<KeepArgs<'_>>
     match rest_of(words) {
         [job, report, plates @ ..] => keep_with(
             words,
-            width_in(value_after(words, "--rich-black")),
-            limit_in(value_after(words, "--black-limit")),
+            used_by(words),
             job.as_str(),
             report.as_str(),
             plates,
@@ -72,16 +112,15 @@ pub fn read_words(words: &[String]) -> Option<KeepArgs<'_>>
 
 fn keep_with<'a>(
     options: &'a [String],
-    width: Option<u32>,
-    limit: Option<u32>,
+    used: Option<UseArgs>,
     job: &'a str,
     report: &'a str,
     plates: &'a [String],
 ) -> Option<KeepArgs<'a>>
-    requires narrow { ForSome width (λ n. n ≤ most_trap_width) }
-    requires share { ForSome limit (λ n. n ≤ scale) }
-    ensures meaning { option_map keep_in result ≡ keep_spec width limit
-        (values_after (codes "--except") (options_of (map string_bytes options.now)))
+    requires numbers { ForSome used AreNumbers }
+    ensures meaning { option_map keep_in result ≡ keep_spec
+        (option_map (λ asked. used_in asked (options_of (map string_bytes options.now))) used)
+        (options_of (map string_bytes options.now))
         job.now report.now (map string_bytes plates.now) }
     ensures limits { IfSome result IsWithin }
 {
@@ -89,11 +128,11 @@ fn keep_with<'a>(
         && stand_together(report, plates)
         && !reads_written(job, report, plates)
         && are_named(options, plates)
+        && are_whites(options, plates)
     {
         Some(KeepArgs {
             options,
-            width: width?,
-            limit: limit?,
+            used: used?,
             job,
             report,
             plates,

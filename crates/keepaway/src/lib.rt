@@ -7,7 +7,7 @@ mod levels;
 mod marks;
 mod parts;
 mod plate;
-mod rows;
+pub mod rows;
 
 pub use cover::{Cover, cover_of};
 pub use parts::RichBlack;

@@ -1,4 +1,4 @@
-// Rows of a list with an entry for each pixel.
+//! Rows of lists with an entry for each pixel of a page.
 
 ghost use Rattle.std.specs.Prelude.{◌≡◌, ◌+◌, ◌*◌, ◌<◌, ◌≤◌, ℕ, length, slice_index};
 ghost use Rattle.page_model.specs.Limits.{most_side};
@@ -7,7 +7,7 @@ ghost use Rattle.page_model.specs.Page.{plates, height, tint, width};
 use page_model::page::Page;
 
 /// Row k of a list with `width` entries a row.
-pub(crate) fn row_of<'a>(list: &'a [u8], width: usize, k: usize) -> &'a [u8]
+pub fn row_of<'a>(list: &'a [u8], width: usize, k: usize) -> &'a [u8]
     requires narrow { width ≤ most_side }
     requires low { k ≤ most_side }
     requires inside { (k + 1) * width ≤ length list.now }
@@ -20,7 +20,7 @@ pub(crate) fn row_of<'a>(list: &'a [u8], width: usize, k: usize) -> &'a [u8]
 }
 
 /// Puts row k into a list of `rows` rows.
-pub(crate) fn put_row(list: &mut [u8], rows: usize, k: usize, row: &[u8])
+pub fn put_row(list: &mut [u8], rows: usize, k: usize, row: &[u8])
     requires narrow { length row.now ≤ most_side }
     requires low { k < rows }
     requires few { rows ≤ most_side }
@@ -36,7 +36,7 @@ pub(crate) fn put_row(list: &mut [u8], rows: usize, k: usize, row: &[u8])
 }
 
 /// Puts row k into a list of `rows` rows.
-pub(crate) fn put_tints(list: &mut [u16], rows: usize, k: usize, row: &[u16])
+pub fn put_tints(list: &mut [u16], rows: usize, k: usize, row: &[u16])
     requires narrow { length row.now ≤ most_side }
     requires low { k < rows }
     requires few { rows ≤ most_side }
@@ -53,7 +53,7 @@ pub(crate) fn put_tints(list: &mut [u16], rows: usize, k: usize, row: &[u16])
 
 /// The tints of plate c, row by row.
 #[tactic(auto, using(crate::proofs::RowLemmas::plane_long))]
-pub(crate) fn tints_of(page: &Page, c: u32) -> &[u16]
+pub fn tints_of(page: &Page, c: u32) -> &[u16]
     requires plate { c < plates page.now }
     ensures len { length result.now ≡ width page.now * height page.now }
     ensures each { (x y : ℕ)
@@ -65,7 +65,7 @@ pub(crate) fn tints_of(page: &Page, c: u32) -> &[u16]
 }
 
 /// The tints of plate c in row y.
-pub(crate) fn tints_of_row(page: &Page, c: u32, y: u32) -> &[u16]
+pub fn tints_of_row(page: &Page, c: u32, y: u32) -> &[u16]
     requires plate { c < plates page.now }
     requires row { y < height page.now }
     ensures len { length result.now ≡ width page.now }

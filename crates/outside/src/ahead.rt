@@ -49,10 +49,7 @@ impl Ahead {
                 return read_once(file, buf);
             }
             self.forget();
-            match read_once(file, &mut self.bytes) {
-                Ok(count) => self.end = count,
-                Err(DeviceError) => return Err(DeviceError),
-            }
+            self.end = read_once(file, &mut self.bytes)?;
         }
         Ok(self.give(buf))
     }

@@ -2,6 +2,7 @@ ghost use Rattle.std.specs.Prelude.{◌≡◌, IsTrue, ◌∷◌, [], ◌++◌, 
 ghost use Rattle.outside.specs.ErrorCases.{Rose, RoseOnce, Asks};
 ghost use Rattle.outside.specs.Tray.{KeepsTray};
 ghost use Rattle.outside.specs.Reading.{TakesPrefix, TakesAtMost, TakesFew};
+ghost use Rattle.outside.specs.declared.reading.ReadError.TheVariants.{ReadFault};
 
 use crate::tray::{DeviceError, Tray};
 use lists::list::List;
@@ -17,6 +18,14 @@ pub enum ReadError {
     ReadFault,
     #[error("out of memory")]
     OutOfMemory,
+}
+
+impl From<DeviceError> for ReadError {
+    ghost from_gives = { λ _ error. error ≡ ReadFault };
+
+    fn from(_: DeviceError) -> ReadError {
+        ReadError::ReadFault
+    }
 }
 
 const PIECE: usize = 4096;
@@ -42,13 +51,9 @@ pub fn read_file<T: Tray>(
     ensures once { IsErrOf result ReadError.ReadFault →
         RoseOnce (T.state tray.old).faults (T.state tray.new).faults }
 {
-    match tray.begin(name) {
-        Ok(()) => match read_on(alloc, tray, most as usize) {
-            Ok(bytes) => Ok(List::from_vec(bytes)),
-            Err(common_error) => Err(common_error),
-        },
-        Err(DeviceError) => Err(ReadError::ReadFault),
-    }
+    tray.begin(name)?;
+    let bytes = read_on(alloc, tray, most as usize)?;
+    Ok(List::from_vec(bytes))
 }
 
 // Reads the rest of the open file.

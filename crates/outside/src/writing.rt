@@ -8,10 +8,8 @@ use crate::tray::DeviceError;
 pub fn write_file<R: Rack>(rack: &mut R, name: &str, bytes: &[u8]) -> Result<(), DeviceError>
     ensures { WritesFile name.now bytes.now (R.state rack.old) (R.state rack.new) result }
 {
-    match rack.create(name) {
-        Ok(()) => fill(rack, bytes),
-        Err(DeviceError) => Err(DeviceError),
-    }
+    rack.create(name)?;
+    fill(rack, bytes)
 }
 
 // Writes all of the open file, and finishes it.
@@ -19,10 +17,8 @@ fn fill<R: Rack>(rack: &mut R, bytes: &[u8]) -> Result<(), DeviceError>
     requires { IsTrue (R.state rack.old).is_open }
     ensures { FillsFile bytes.now (R.state rack.old) (R.state rack.new) result }
 {
-    match write_on(rack, bytes) {
-        Ok(()) => rack.finish(),
-        Err(DeviceError) => Err(DeviceError),
-    }
+    write_on(rack, bytes)?;
+    rack.finish()
 }
 
 /// Writes a whole piece at the end of the open file.
@@ -32,10 +28,8 @@ pub fn write_on<R: Rack>(rack: &mut R, piece: &[u8]) -> Result<(), DeviceError>
 {
     let mut done = 0usize;
     while done < piece.len() {
-        match rack.write(&piece[done..]) {
-            Ok(count) => done += count,
-            Err(DeviceError) => return Err(DeviceError),
-        }
+        let count = rack.write(&piece[done..])?;
+        done += count;
     }
     Ok(())
 }

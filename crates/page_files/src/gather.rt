@@ -34,10 +34,8 @@ pub fn gather<T: Tray, S: AsStr>(
     ensures { Gathers (sources job.now names.now (map S.text inputs.now)) (T.state tray.old)
         (T.state tray.new) result }
 {
-    match read_job_file(alloc, tray, job) {
-        Ok(read) => gather_plates(alloc, tray, read, names, inputs),
-        Err(error) => Err(error),
-    }
+    let read = read_job_file(alloc, tray, job)?;
+    gather_plates(alloc, tray, read, names, inputs)
 }
 
 // Reads the plates after the job, and makes a page of both.
@@ -55,11 +53,7 @@ fn gather_plates<T: Tray, S: AsStr>(
     ensures { (name : List ℕ) → GathersRest (sources name names.now (map S.text inputs.now)) job
         (T.state tray.old) (T.state tray.new) result }
 {
-    match read_plates(alloc, tray, inputs) {
-        Ok(planes) => {
-            plane_turns_back();
-            assemble_planes(alloc, job, planes, names)
-        }
-        Err(error) => Err(error),
-    }
+    let planes = read_plates(alloc, tray, inputs)?;
+    plane_turns_back();
+    assemble_planes(alloc, job, planes, names)
 }

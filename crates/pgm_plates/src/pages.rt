@@ -13,7 +13,7 @@ use crate::raster::read_raster;
 use crate::reading::read_header;
 use crate::samples::sample_size;
 use crate::values::{Form, Values};
-use outside::tray::{DeviceError, Tray};
+use outside::tray::Tray;
 use page_model::parts::Plane;
 use std::alloc::Global;
 
@@ -30,10 +30,9 @@ pub fn read_page<T: Tray>(
 ) -> Result<Option<Plate>, PlateError>
     ensures { ReadsPage name.now page (T.state tray.old) (T.state tray.new) result }
 {
-    match read_named(alloc, tray, name, page, Form::Samples) {
-        Ok(Some(read)) => Ok(Some(read.into_plate())),
-        Ok(None) => Ok(None),
-        Err(error) => Err(error),
+    match read_named(alloc, tray, name, page, Form::Samples)? {
+        Some(read) => Ok(Some(read.into_plate())),
+        None => Ok(None),
     }
 }
 
@@ -53,10 +52,9 @@ pub fn read_page_plane<T: Tray>(
     ensures few { IfOk result (λ read. IfSome read
         (λ plane. plane.width * plane.height ≤ most_samples)) }
 {
-    match read_named(alloc, tray, name, page, Form::Tints) {
-        Ok(Some(read)) => Ok(Some(read.into_plane())),
-        Ok(None) => Ok(None),
-        Err(error) => Err(error),
+    match read_named(alloc, tray, name, page, Form::Tints)? {
+        Some(read) => Ok(Some(read.into_plane())),
+        None => Ok(None),
     }
 }
 
@@ -72,10 +70,8 @@ fn read_named<T: Tray>(
         (map_ok (map_some (plate_from form)) result) }
     ensures below { IfOk result (λ read. IfSome read (λ r. Fit r.header.maxval r.values)) }
 {
-    match tray.begin(name) {
-        Ok(()) => read_images(alloc, tray, page, form),
-        Err(DeviceError) => Err(PlateError::ReadFault),
-    }
+    tray.begin(name)?;
+    read_images(alloc, tray, page, form)
 }
 
 // Reads on to the image of that number.

@@ -1,4 +1,9 @@
+ghost use Rattle.std.specs.Prelude.{◌≡◌};
+ghost use Rattle.pgm_plates.specs.declared.plate.PlateError.TheVariants.{OutOfMemory, ReadFault};
+
+use outside::tray::DeviceError;
 use page_model::parts::Tints;
+use std::alloc::AllocError;
 
 /// A plate as its file has it: `width * height` samples, row by row from the top, 0 for black and `maxval` for white.
 ///
@@ -43,4 +48,20 @@ pub enum PlateError {
     ReadFault,
     /// Memory ran out.
     OutOfMemory,
+}
+
+impl From<DeviceError> for PlateError {
+    ghost from_gives = { λ _ error. error ≡ ReadFault };
+
+    fn from(_: DeviceError) -> PlateError {
+        PlateError::ReadFault
+    }
+}
+
+impl From<AllocError> for PlateError {
+    ghost from_gives = { λ _ error. error ≡ OutOfMemory };
+
+    fn from(_: AllocError) -> PlateError {
+        PlateError::OutOfMemory
+    }
 }

@@ -112,20 +112,15 @@ fn read_pieces<T: Tray>(
     while values.len() < count {
         let done = values.len();
         let want = piece.len().min(count - done);
-        match read_values(
+        read_values(
             tray,
             &mut piece[..want],
             &mut bytes[..want * size],
             maxval,
             start + (done * size) as u64,
             form,
-        ) {
-            Ok(()) => match values.extend_from_slice(&piece[..want]) {
-                Ok(()) => {}
-                Err(_) => return Err(PlateError::OutOfMemory),
-            },
-            Err(error) => return Err(error),
-        }
+        )?;
+        values.extend_from_slice(&piece[..want])?;
     }
     Ok(())
 }
@@ -154,13 +149,9 @@ fn read_values<T: Tray>(
     ensures uncut { 0 < start → result ≢ Err (PlateError.Fault (PlateFault.Truncated 0)) }
     ensures memory { result ≢ Err PlateError.OutOfMemory }
 {
-    match read_piece(tray, values, bytes, maxval, start) {
-        Ok(()) => {
-            turn_to(form, values, maxval);
-            Ok(())
-        }
-        Err(error) => Err(error),
-    }
+    read_piece(tray, values, bytes, maxval, start)?;
+    turn_to(form, values, maxval);
+    Ok(())
 }
 
 // Turns samples into that form.
@@ -197,13 +188,9 @@ pub fn read_piece<T: Tray>(
     ensures uncut { 0 < start → result ≢ Err (PlateError.Fault (PlateFault.Truncated 0)) }
     ensures memory { result ≢ Err PlateError.OutOfMemory }
 {
-    match judge_piece(tray, bytes, maxval, start) {
-        Ok(()) => {
-            decode(bytes, maxval, samples);
-            Ok(())
-        }
-        Err(error) => Err(error),
-    }
+    judge_piece(tray, bytes, maxval, start)?;
+    decode(bytes, maxval, samples);
+    Ok(())
 }
 
 /// Reads the next bytes of a raster into `bytes`, fills it, and checks that no sample is above the maxval. `start` is

@@ -10,7 +10,7 @@ use crate::plate::PlateError;
 use crate::raster::{judge_piece, read_piece};
 use crate::reading::{end_of_file, read_header};
 use crate::samples::sample_size;
-use outside::tray::{DeviceError, Tray};
+use outside::tray::Tray;
 
 /// A plate file that is being read: its header, and the header's length in bytes.
 #[derive(Clone, Copy, Debug, Drop, PartialEq, Eq)]
@@ -31,10 +31,8 @@ pub fn begin_plate<T: Tray>(
     ensures begun { BeginsPlate bounds name.now (T.state tray.old) (T.state tray.new) result }
     ensures memory { result ≢ Err PlateError.OutOfMemory }
 {
-    match tray.begin(name) {
-        Ok(()) => open_plate(tray, bounds),
-        Err(DeviceError) => Err(PlateError::ReadFault),
-    }
+    tray.begin(name)?;
+    open_plate(tray, bounds)
 }
 
 // Reads the header of the file that is begun.
@@ -44,10 +42,8 @@ fn open_plate<T: Tray>(tray: &mut T, bounds: Bounds) -> Result<OpenPlate, PlateE
     ensures count { KeepsCount (T.state tray.old) (T.state tray.new) result }
     ensures memory { result ≢ Err PlateError.OutOfMemory }
 {
-    match read_header(tray, bounds) {
-        Ok((header, size)) => Ok(OpenPlate { header, size }),
-        Err(error) => Err(error),
-    }
+    let (header, size) = read_header(tray, bounds)?;
+    Ok(OpenPlate { header, size })
 }
 
 /// Reads the next samples of a plate, row by row from the top, and fills `samples`; `done` samples were read before.
@@ -139,16 +135,14 @@ fn fill_samples<T: Tray>(
     let mut done = 0usize;
     while done < samples.len() {
         let want = most.min(samples.len() - done);
-        match read_piece(
+        read_piece(
             tray,
             &mut samples[done..done + want],
             &mut bytes[..want * size],
             maxval,
             start + (done * size) as u64,
-        ) {
-            Ok(()) => done += want,
-            Err(error) => return Err(error),
-        }
+        )?;
+        done += want;
     }
     Ok(())
 }
@@ -175,15 +169,13 @@ fn judge_samples<T: Tray>(
     let mut done = 0u64;
     while done < count {
         let want = most.min(count - done);
-        match judge_piece(
+        judge_piece(
             tray,
             &mut bytes[..want as usize * size],
             maxval,
             start + done * size as u64,
-        ) {
-            Ok(()) => done += want,
-            Err(error) => return Err(error),
-        }
+        )?;
+        done += want;
     }
     Ok(())
 }

@@ -112,13 +112,9 @@ pub fn judge_plate<T: Tray>(
     ensures answer { JudgesPlate name.now (T.state tray.old) (T.state tray.new) result }
     ensures memory { result ≢ Err PlateError.OutOfMemory }
 {
-    match begin_plate(tray, name, Bounds::Sheet) {
-        Ok(plate) => match judge_rest(tray, plate, bytes) {
-            Ok(()) => Ok(plate.header),
-            Err(common_error) => Err(common_error),
-        },
-        Err(common_error) => Err(common_error),
-    }
+    let plate = begin_plate(tray, name, Bounds::Sheet)?;
+    judge_rest(tray, plate, bytes)?;
+    Ok(plate.header)
 }
 
 // Reads the rest of a plate whose header was read.
@@ -131,8 +127,6 @@ fn judge_rest<T: Tray>(tray: &mut T, plate: OpenPlate, bytes: &mut [u8]) -> Resu
     ensures memory { result ≢ Err PlateError.OutOfMemory }
 {
     let count = plate.header.width as u64 * plate.header.height as u64;
-    match judge_rows(tray, plate, 0, count, bytes) {
-        Ok(()) => end_plate(tray, plate),
-        Err(common_error) => Err(common_error),
-    }
+    judge_rows(tray, plate, 0, count, bytes)?;
+    end_plate(tray, plate)
 }

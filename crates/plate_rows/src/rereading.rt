@@ -44,15 +44,13 @@ pub fn begin_plates<T: Tray, S: AsStr>(
         (map T.state trays.old) (map T.state trays.new) result }
 {
     for place in 0..inputs.len() {
-        match begin_one(
+        let plate = begin_one(
             &mut trays[place],
             place as u32,
             inputs[place].as_str(),
             headers[place],
-        ) {
-            Ok(plate) => plates[place] = plate,
-            Err(error) => return Err(error),
-        }
+        )?;
+        plates[place] = plate;
     }
     Ok(())
 }
@@ -190,16 +188,14 @@ pub fn read_tints<T: Tray>(
     let mut filled = 0usize;
     while filled < tints.len() {
         let want = most.min(tints.len() - filled);
-        match read_piece(
+        read_piece(
             tray,
             plate,
             done + filled as u64,
             &mut tints[filled..filled + want],
             bytes,
-        ) {
-            Ok(()) => filled += want,
-            Err(common_error) => return Err(common_error),
-        }
+        )?;
+        filled += want;
     }
     Ok(())
 }
@@ -225,13 +221,9 @@ fn read_piece<T: Tray>(
     ensures answer { ReadsTints plate done tints.new (T.state tray.old) (T.state tray.new) result }
     ensures memory { result ≢ Err PlateError.OutOfMemory }
 {
-    match read_rows(tray, plate, done, tints, bytes) {
-        Ok(()) => {
-            turn(tints, plate.header.maxval);
-            Ok(())
-        }
-        Err(common_error) => Err(common_error),
-    }
+    read_rows(tray, plate, done, tints, bytes)?;
+    turn(tints, plate.header.maxval);
+    Ok(())
 }
 
 /// Checks that nothing stands after the last sample of each plate, plate k by tray k.

@@ -63,14 +63,20 @@ fn judge_share<H: Threads + Sync, T: Tray + Send, S: AsStr + Sync>(
     let (inputs, inputs_after) = inputs.split_at(count);
     let (trays, trays_after) = trays.split_at_mut(count);
     let (headers, headers_after) = headers.split_at_mut(count);
+    let share = Share {
+        workers: half,
+        inputs,
+    };
+    let share_after = Share {
+        workers: workers - half,
+        inputs: inputs_after,
+    };
     let (first, second) = judge_beside(
         rt,
-        half,
-        inputs,
+        &share,
         trays,
         headers,
-        workers - half,
-        inputs_after,
+        &share_after,
         trays_after,
         headers_after,
     );
@@ -88,48 +94,61 @@ fn share_of(plates: usize, first: usize, workers: usize) -> usize
     plates * first / workers
 }
 
+// Some of the plates, and the number of workers that check them.
+#[derive(Drop)]
+struct Share<'a, S> {
+    workers: usize,
+    inputs: &'a [S],
+}
+
 // Checks two shares of plates side by side, each by its workers. It is a function of its own, so that what the closures
 // require is what this function is given.
 #[cycle(shares)]
 fn judge_beside<H: Threads + Sync, T: Tray + Send, S: AsStr + Sync>(
     rt: &H,
-    workers: usize,
-    inputs: &[S],
+    share: &Share<'_, S>,
     trays: &mut [T],
     headers: &mut [Header],
-    workers_after: usize,
-    inputs_after: &[S],
+    share_after: &Share<'_, S>,
     trays_after: &mut [T],
     headers_after: &mut [Header],
 ) -> (Result<(), PlateErrorAt>, Result<(), PlateErrorAt>)
-    requires some_workers { 1 ≤ workers }
-    requires some_workers_after { 1 ≤ workers_after }
-    requires few { length inputs.now ≤ most_plates }
-    requires trays { length inputs.now ≤ length trays.old }
-    requires headers { length inputs.now ≤ length headers.old }
-    requires few_after { length inputs_after.now ≤ most_plates }
-    requires trays_after { length inputs_after.now ≤ length trays_after.old }
-    requires headers_after { length inputs_after.now ≤ length headers_after.old }
-    ensures first { JudgesShare (map S.text inputs.now) headers.new (map T.state trays.old)
-        (map T.state trays.new) result.0 }
-    ensures second { JudgesShare (map S.text inputs_after.now) headers_after.new
+    requires some_workers { 1 ≤ share.now.workers }
+    requires some_workers_after { 1 ≤ share_after.now.workers }
+    requires few { length share.now.inputs.now ≤ most_plates }
+    requires trays { length share.now.inputs.now ≤ length trays.old }
+    requires headers { length share.now.inputs.now ≤ length headers.old }
+    requires few_after { length share_after.now.inputs.now ≤ most_plates }
+    requires trays_after { length share_after.now.inputs.now ≤ length trays_after.old }
+    requires headers_after { length share_after.now.inputs.now ≤ length headers_after.old }
+    ensures first { JudgesShare (map S.text share.now.inputs.now) headers.new
+        (map T.state trays.old) (map T.state trays.new) result.0 }
+    ensures second { JudgesShare (map S.text share_after.now.inputs.now) headers_after.new
         (map T.state trays_after.old) (map T.state trays_after.new) result.1 }
 {
     let mut first = || -> Result<(), PlateErrorAt>
         requires bounds { IsSync H.row × IsSend T.row × IsSync S.row }
-        requires few { length inputs.now ≤ most_plates }
-        requires trays { length inputs.now ≤ length trays.now }
-        requires headers { length inputs.now ≤ length headers.now }
-        ensures { JudgesShare (map S.text inputs.entry.now) headers.exit.now
+        requires few { length share.now.inputs.now ≤ most_plates }
+        requires trays { length share.now.inputs.now ≤ length trays.now }
+        requires headers { length share.now.inputs.now ≤ length headers.now }
+        ensures { JudgesShare (map S.text share.entry.now.inputs.now) headers.exit.now
             (map T.state trays.entry.now) (map T.state trays.exit.now) result }
-    { judge_share(rt, workers, inputs, trays, headers) };
+    { judge_share(rt, share.workers, share.inputs, trays, headers) };
     let mut second = || -> Result<(), PlateErrorAt>
         requires bounds { IsSync H.row × IsSend T.row × IsSync S.row }
-        requires few { length inputs_after.now ≤ most_plates }
-        requires trays { length inputs_after.now ≤ length trays_after.now }
-        requires headers { length inputs_after.now ≤ length headers_after.now }
-        ensures { JudgesShare (map S.text inputs_after.entry.now) headers_after.exit.now
+        requires few { length share_after.now.inputs.now ≤ most_plates }
+        requires trays { length share_after.now.inputs.now ≤ length trays_after.now }
+        requires headers { length share_after.now.inputs.now ≤ length headers_after.now }
+        ensures { JudgesShare (map S.text share_after.entry.now.inputs.now) headers_after.exit.now
             (map T.state trays_after.entry.now) (map T.state trays_after.exit.now) result }
-    { judge_share(rt, workers_after, inputs_after, trays_after, headers_after) };
+    {
+        judge_share(
+            rt,
+            share_after.workers,
+            share_after.inputs,
+            trays_after,
+            headers_after,
+        )
+    };
     thread::join_mut(rt, &mut first, &mut second)
 }

@@ -30,14 +30,8 @@ pub fn last_keys(alloc: Global, objects: &ObjectList, dict: u32) -> Result<Vec<u
     ensures ascending { IfOk result (λ places. Ascend (key_names objects.now places.items)) }
 {
     let all = objects.as_slice();
-    let keys = match keys(alloc, objects, dict) {
-        Ok(keys) => keys,
-        Err(OutOfMemory) => return Err(OutOfMemory),
-    };
-    let named = match by_name(alloc, all, &keys) {
-        Ok(named) => named,
-        Err(OutOfMemory) => return Err(OutOfMemory),
-    };
+    let keys = keys(alloc, objects, dict)?;
+    let named = by_name(alloc, all, &keys)?;
     places_of(alloc, &named)
 }
 

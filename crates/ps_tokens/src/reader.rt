@@ -47,10 +47,7 @@ fn objects_in(alloc: Global, bytes: &[u8], tokens: &[Token]) -> Result<Vec<Objec
     while left > 0 {
         let suffix = &tokens[left..];
         left -= 1;
-        match put_token(alloc, bytes, &tokens[left], suffix, &mut objects, &mut ends) {
-            Ok(()) => {}
-            Err(OutOfMemory) => return Err(OutOfMemory),
-        }
+        put_token(alloc, bytes, &tokens[left], suffix, &mut objects, &mut ends)?;
     }
     objects.as_mut_slice().reverse();
     Ok(objects)
@@ -140,10 +137,7 @@ fn put_object(
         OnOk result (objects.new.items
         ≡ objects.old.items ++ record { at = token.now.at; inside = inside; body = body } ∷ []) }
 {
-    let body = match body_of(alloc, token.kind, spelling(bytes, token)) {
-        Ok(body) => body,
-        Err(OutOfMemory) => return Err(OutOfMemory),
-    };
+    let body = body_of(alloc, token.kind, spelling(bytes, token))?;
     let object = Object {
         at: token.at,
         inside,
@@ -164,10 +158,10 @@ fn body_of(alloc: Global, kind: TokenKind, spelled: &[u8]) -> Result<Body, OutOf
         TokenKind::OpenArray => Ok(Body::Array),
         TokenKind::CloseDict => Ok(Body::Null),
         TokenKind::CloseArray => Ok(Body::Null),
-        TokenKind::Literal => match copy_name(alloc, after_slash(spelled)) {
-            Ok(name) => Ok(Body::Literal(name)),
-            Err(OutOfMemory) => Err(OutOfMemory),
-        },
+        TokenKind::Literal => {
+            let name = copy_name(alloc, after_slash(spelled))?;
+            Ok(Body::Literal(name))
+        }
         TokenKind::Word => word_body(alloc, spelled),
         TokenKind::Number(number) => Ok(Body::Number(number)),
         TokenKind::Text => Ok(Body::Text),
@@ -186,10 +180,8 @@ fn word_body(alloc: Global, word: &[u8]) -> Result<Body, OutOfMemory>
     } else if word == b"null".as_slice() {
         Ok(Body::Null)
     } else {
-        match copy_name(alloc, word) {
-            Ok(name) => Ok(Body::Operator(name)),
-            Err(OutOfMemory) => Err(OutOfMemory),
-        }
+        let name = copy_name(alloc, word)?;
+        Ok(Body::Operator(name))
     }
 }
 

@@ -24,13 +24,9 @@ pub fn tokens(alloc: Global, bytes: &[u8]) -> Result<TokenList, JobError>
     let mut rest = bytes;
     let mut at = 0u32;
     while !rest.is_empty() {
-        match take_piece(&mut found, rest, at) {
-            Ok(len) => {
-                rest = &rest[len..];
-                at += len as u32;
-            }
-            Err(error) => return Err(error),
-        }
+        let len = take_piece(&mut found, rest, at)?;
+        rest = &rest[len..];
+        at += len as u32;
     }
     Ok(List::from_vec(found))
 }

@@ -73,83 +73,95 @@ fn trap_at(
     }
 }
 
-/// Traps `count` samples of row y from x on, whose nearest arms have these indices. Where no arm is within reach of
-/// them, all are skipped.
+/// A row whose deciders are known.
+#[derive(Clone, Copy, Drop)]
+struct DecidedRow<'a> {
+    y: u32,
+    /// The widest trap of the page, in half-samples.
+    reach2: u32,
+    /// The zone of each sample.
+    zones: &'a [u8],
+    /// The answer of each doubled column, and the columns of the arms.
+    codes: &'a [u16],
+    columns: &'a [u32],
+    /// The index of each sample's nearest arm.
+    places: &'a [Option<u32>],
+}
+
+/// Traps `count` samples of a row from x on. Where no arm is within reach of them, all are skipped.
 fn trap_some(
     page: &Page,
-    zones: &[u8],
-    y: u32,
+    row: &DecidedRow<'_>,
     x: u32,
     count: u32,
-    reach2: u32,
-    codes: &[u16],
-    columns: &[u32],
-    places: &[Option<u32>],
     tints: &mut [u16],
     out: &mut [u16],
 )
-    requires zones { AreZones page.now y zones.now }
-    requires row { y < height page.now }
-    requires reach { reach2 ≡ page_reach page.now }
-    requires few { reach2 ≤ most_reach }
-    requires places { length places.now ≡ width page.now }
-    requires known { AreKnown (width page.now) y codes.now columns.now places.now }
-    requires deciders { AreDeciders page.now reach2 y codes.now columns.now places.now }
-    requires answers { AreAnswers page.now (page_reach page.now) y (doubled page.now) codes.now }
+    requires zones { AreZones page.now row.now.y row.now.zones.now }
+    requires row { row.now.y < height page.now }
+    requires reach { row.now.reach2 ≡ page_reach page.now }
+    requires few { row.now.reach2 ≤ most_reach }
+    requires places { length row.now.places.now ≡ width page.now }
+    requires known { AreKnown (width page.now) row.now.y row.now.codes.now row.now.columns.now
+        row.now.places.now }
+    requires deciders { AreDeciders page.now row.now.reach2 row.now.y row.now.codes.now
+        row.now.columns.now row.now.places.now }
+    requires answers { AreAnswers page.now (page_reach page.now) row.now.y (doubled page.now)
+        row.now.codes.now }
     requires some { 1 ≤ count }
     requires inside { x + count ≤ width page.now }
     requires tints { length tints.old ≡ plates page.now }
-    requires out { IsRowTo page.now y x out.old }
+    requires out { IsRowTo page.now row.now.y x out.old }
     ensures tints { length tints.new ≡ plates page.now }
-    ensures out { IsRowTo page.now y (x + count) out.new }
+    ensures out { IsRowTo page.now row.now.y (x + count) out.new }
 {
     let _valid = page.plates();
-    if are_quiet(page, y, codes, reach2, x, count) {
+    let y = row.y;
+    if are_quiet(page, y, row.codes, row.reach2, x, count) {
         return;
     }
     for k in x..x + count {
-        let nearest = edge_at(codes, y, columns, places[k as usize]);
-        trap_at(page, zones, At { x: k, y }, nearest, reach2, tints, out);
+        let nearest = edge_at(row.codes, y, row.columns, row.places[k as usize]);
+        trap_at(
+            page,
+            row.zones,
+            At { x: k, y },
+            nearest,
+            row.reach2,
+            tints,
+            out,
+        );
     }
 }
 
-/// Traps the samples of row y, whose nearest arms have these indices.
-fn trap_samples(
-    page: &Page,
-    zones: &[u8],
-    y: u32,
-    reach2: u32,
-    codes: &[u16],
-    columns: &[u32],
-    places: &[Option<u32>],
-    tints: &mut [u16],
-    out: &mut [u16],
-)
-    requires zones { AreZones page.now y zones.now }
-    requires row { y < height page.now }
-    requires reach { reach2 ≡ page_reach page.now }
-    requires few { reach2 ≤ most_reach }
-    requires places { length places.now ≡ width page.now }
-    requires known { AreKnown (width page.now) y codes.now columns.now places.now }
-    requires deciders { AreDeciders page.now reach2 y codes.now columns.now places.now }
-    requires answers { AreAnswers page.now (page_reach page.now) y (doubled page.now) codes.now }
+/// Traps the samples of a row.
+fn trap_samples(page: &Page, row: &DecidedRow<'_>, tints: &mut [u16], out: &mut [u16])
+    requires zones { AreZones page.now row.now.y row.now.zones.now }
+    requires row { row.now.y < height page.now }
+    requires reach { row.now.reach2 ≡ page_reach page.now }
+    requires few { row.now.reach2 ≤ most_reach }
+    requires places { length row.now.places.now ≡ width page.now }
+    requires known { AreKnown (width page.now) row.now.y row.now.codes.now row.now.columns.now
+        row.now.places.now }
+    requires deciders { AreDeciders page.now row.now.reach2 row.now.y row.now.codes.now
+        row.now.columns.now row.now.places.now }
+    requires answers { AreAnswers page.now (page_reach page.now) row.now.y (doubled page.now)
+        row.now.codes.now }
     requires tints { length tints.old ≡ plates page.now }
-    requires out { IsRowTo page.now y 0 out.old }
+    requires out { IsRowTo page.now row.now.y 0 out.old }
     ensures tints { length tints.new ≡ plates page.now }
-    ensures out { IsRowTo page.now y (width page.now) out.new }
+    ensures out { IsRowTo page.now row.now.y (width page.now) out.new }
 {
     let width = page.width();
     let mut x = 0;
     while x < width {
         let count = (width - x).min(SPAN);
-        trap_some(
-            page, zones, y, x, count, reach2, codes, columns, places, tints, out,
-        );
+        trap_some(page, row, x, count, tints, out);
         x += count;
     }
 }
 
-/// Traps the samples of a row.
+/// Traps the samples of a row, whose deciders it looks for.
 fn trap_row(
     page: &Page,
     y: u32,
@@ -181,7 +193,15 @@ fn trap_row(
         &mut workspace.hull,
     );
     let tints = workspace.tints.as_mut_slice();
-    trap_samples(page, zones, y, reach2, codes, columns, places, tints, out);
+    let row = DecidedRow {
+        y,
+        reach2,
+        zones,
+        codes,
+        columns,
+        places,
+    };
+    trap_samples(page, &row, tints, out);
 }
 
 /// Writes the new tints of a row, which are its own where no edge is within reach.

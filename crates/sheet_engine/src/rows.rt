@@ -1,6 +1,6 @@
 // The rows of a strip's new tints, out of the buffers that its windows were trapped with.
 
-ghost use Rattle.std.specs.Prelude.{◌≡◌, ◌<◌, ◌≤◌, ◌+◌, ◌++◌, IfOk, drop, length, map, take};
+ghost use Rattle.std.specs.Prelude.{◌≡◌, ◌<◌, ◌≤◌, ◌+◌, IfOk, length, map};
 ghost use Rattle.page_model.specs.Page.{plates, width};
 ghost use Rattle.sheet_geometry.specs.Plans.{AreRulers, tile_of};
 ghost use Rattle.sheet_geometry.specs.Spans.{AreSpans};
@@ -11,17 +11,10 @@ ghost use Rattle.sheet_engine.specs.Strips.{IsSomeSpan, planes_of};
 use crate::tints::row_of_core;
 use crate::workspace::StripWorkspace;
 use page_model::parts::OutOfMemory;
+use sheet_geometry::refill::put_run;
 use sheet_geometry::spans::{Ruler, Span};
 use sheet_geometry::window_sheet::Sheet;
 use std::alloc::Global;
-
-/// Writes tints to `out`, from one place on.
-fn put_run(run: &[u16], from: usize, out: &mut [u16])
-    requires { from + length run.now ≤ length out.old }
-    ensures { out.new ≡ take from out.old ++ (run.now ++ drop (from + length run.now) out.old) }
-{
-    out[from..from + run.len()].copy_from_slice(run);
-}
 
 /// Writes row k of the new tints of plate c of the strip that was trapped with these buffers last.
 pub fn put_strip_row(

@@ -164,11 +164,11 @@ fn trap_window_in(
 
 /// What the windows of a strip have in common: the rulers, the rows, and the sheet's row at which their cores begin.
 #[derive(Clone, Copy, Drop)]
-struct RowPlan {
-    across: Ruler,
-    down: Ruler,
-    row: Span,
-    at: u32,
+pub struct RowPlan {
+    pub across: Ruler,
+    pub down: Ruler,
+    pub row: Span,
+    pub at: u32,
 }
 
 fn trap_planned_in(sheet: &Sheet, plan: &RowPlan, window: &mut WindowWorkspace)
@@ -266,33 +266,26 @@ fn add_windows(
 pub fn trap_strip_in<H: Threads + Sync>(
     rt: &H,
     strip: &Sheet,
-    across: &Ruler,
-    down: &Ruler,
-    row: &Span,
-    at: u32,
+    plan: &RowPlan,
     workers: usize,
     workspace: &mut StripWorkspace,
     counts: &mut SheetCounts,
 )
     requires some_workers { 1 ≤ workers }
-    requires rulers { AreRulers strip.now across.now down.now }
-    requires small { AreSmall strip.now across.now down.now }
-    requires columns { AreSpans across.now 0 (columns_in workspace.old) (width strip.now) }
-    requires row { IsSpan down.now at row.now }
-    requires windows { IsStripWorkspace (form_of strip.now) row.now.wide workspace.old }
-    requires workspace { HasWorkspaces strip.now (width strip.now * row.now.core) counts.old }
+    requires rulers { AreRulers strip.now plan.now.across plan.now.down }
+    requires small { AreSmall strip.now plan.now.across plan.now.down }
+    requires columns { AreSpans plan.now.across 0 (columns_in workspace.old) (width strip.now) }
+    requires row { IsSpan plan.now.down plan.now.at plan.now.row }
+    requires windows { IsStripWorkspace (form_of strip.now) plan.now.row.wide workspace.old }
+    requires workspace { HasWorkspaces strip.now (width strip.now * plan.now.row.core) counts.old }
     ensures columns { columns_in workspace.new ≡ columns_in workspace.old }
-    ensures windows { IsStripWorkspace (form_of strip.now) row.now.wide workspace.new }
-    ensures planes { tiles_in workspace.new
-        ≡ map (planes_of strip.now row.now) (columns_in workspace.old) }
-    ensures counts { AddsArea strip.now 0 at (width strip.now) row.now.core counts.old counts.new }
+    ensures windows { IsStripWorkspace (form_of strip.now) plan.now.row.wide workspace.new }
+    ensures planes { tiles_in workspace.new ≡ map (planes_of strip.now plan.now.row)
+        (columns_in workspace.old) }
+    ensures counts { AddsArea strip.now 0 plan.now.at (width strip.now) plan.now.row.core counts.old
+        counts.new }
 {
-    let plan = RowPlan {
-        across: *across,
-        down: *down,
-        row: *row,
-        at,
-    };
-    trap_each_in(rt, strip, &plan, workers, &mut workspace.windows);
-    add_windows(strip, across, row, at, &workspace.windows, counts);
+    trap_each_in(rt, strip, plan, workers, &mut workspace.windows);
+    let (across, row) = (&plan.across, &plan.row);
+    add_windows(strip, across, row, plan.at, &workspace.windows, counts);
 }

@@ -1,7 +1,7 @@
 ghost use Rattle.std.specs.Prelude.{◌≡◌};
 ghost use Rattle.sheet_files.specs.Errors.{error_of, status_of_error};
 
-use common_errors::common::{CommonError, status};
+use common_errors::common::CommonError;
 use common_errors::statuses::PAGE_REFUSED;
 use plate_rows::error::RereadError;
 use sheet_geometry::sheet_errors::SheetError;
@@ -27,12 +27,14 @@ pub fn error_of(error: RereadError) -> TrapsheetError
     }
 }
 
-/// The status that the program exits with, one of `common_errors::statuses`.
-pub fn error_status(error: &TrapsheetError) -> u8
-    ensures { result ≡ status_of_error error.now }
-{
-    match error {
-        TrapsheetError::Common(common_error) => status(common_error),
-        TrapsheetError::OfSheet(_) | TrapsheetError::Changed(_) => PAGE_REFUSED,
+impl TrapsheetError {
+    /// The status that the program exits with, one of `common_errors::statuses`.
+    pub fn exit_status(&self) -> u8
+        ensures { result ≡ status_of_error self.now }
+    {
+        match self {
+            TrapsheetError::Common(common_error) => common_error.exit_status(),
+            TrapsheetError::OfSheet(_) | TrapsheetError::Changed(_) => PAGE_REFUSED,
+        }
     }
 }

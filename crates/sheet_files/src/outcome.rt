@@ -113,10 +113,8 @@ fn sheet_outcome<H: Threads + Sync>(
     ensures report { IfOk result (λ o. o.report ≡ report_of sheet.now (page_counts sheet.now)) }
 {
     let workers = workers as usize;
-    match trap_sheet(rt, alloc, sheet, &rulers.across, &rulers.down, workers) {
-        Ok(trapped) => with_report(alloc, sheet, trapped),
-        Err(OutOfMemory) => Err(OutOfMemory),
-    }
+    let trapped = trap_sheet(rt, alloc, sheet, &rulers.across, &rulers.down, workers)?;
+    with_report(alloc, sheet, trapped)
 }
 
 // The planes of a trapped sheet, with its report.
@@ -131,10 +129,8 @@ fn with_report(
 {
     let TrappedSheet { tints, counts } = trapped;
     let report = sheet_report(alloc, sheet, counts)?;
-    match planes_with(alloc, sheet, tints) {
-        Ok(planes) => Ok(SheetOutcome { planes, report }),
-        Err(OutOfMemory) => Err(OutOfMemory),
-    }
+    let planes = planes_with(alloc, sheet, tints)?;
+    Ok(SheetOutcome { planes, report })
 }
 
 fn sheet_report(alloc: Global, sheet: &Sheet, counts: SheetCounts) -> Result<Name, OutOfMemory>

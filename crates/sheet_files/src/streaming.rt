@@ -20,7 +20,7 @@ use pgm_plates::rows::Header;
 use sheet_engine::counts::SheetCounts;
 use sheet_geometry::plan::Rulers;
 use sheet_stream::error::StreamError;
-use sheet_stream::parts::StripPlan;
+use sheet_stream::parts::{PlateNames, StripPlan};
 use sheet_stream::sheet::stream_sheet;
 use sheet_stream::workspace::{StreamWorkspace, stream_workspace};
 use std::alloc::Global;
@@ -50,6 +50,13 @@ pub fn header_for(outline: &PageParts) -> Header
     }
 }
 
+/// The names of the files of a sheet: those of its plates, and that of its report.
+#[derive(Drop)]
+pub struct SheetNames<'a, S> {
+    pub plates: PlateNames<'a, S>,
+    pub report: &'a str,
+}
+
 /// Reads the plates of a sheet that was checked once more, traps it strip by strip, and writes its files, the report
 /// last. All memory is allocated before the first file is begun.
 pub fn stream<H: Threads + Sync, T: Tray, R: Rack, S: AsStr>(
@@ -57,21 +64,21 @@ pub fn stream<H: Threads + Sync, T: Tray, R: Rack, S: AsStr>(
     alloc: Global,
     trays: &mut [T],
     racks: &mut [R],
-    inputs: &[S],
-    outputs: &[S],
-    report: &str,
+    names: &SheetNames<'_, S>,
     workers: u32,
     outline: &PageParts,
     rulers: &Rulers,
 ) -> Result<(), TrapsheetError>
     requires can { StreamsBy outline.now rulers.now }
     requires workers { 1 ≤ workers }
-    requires inputs { length inputs.now ≡ plates outline.now }
-    requires outputs { length outputs.now ≡ plates outline.now }
+    requires inputs { length names.now.plates.inputs.now ≡ plates outline.now }
+    requires outputs { length names.now.plates.outputs.now ≡ plates outline.now }
     requires trays { plates outline.now ≤ length trays.old }
     requires racks { plates outline.now ≤ length racks.old }
-    ensures { let course = course_of (map S.text inputs.now) (map S.text outputs.now) (map T.state trays.old) (map R.state racks.old) in
-        StreamsOut course report.now outline.now (map T.state trays.new) (map R.state racks.new)
+    ensures { let course = course_of (map S.text names.now.plates.inputs.now) (map S.text
+        names.now.plates.outputs.now) (map T.state trays.old) (map R.state racks.old) in
+        StreamsOut course names.now.report.now outline.now (map T.state trays.new) (map R.state
+        racks.new)
         result }
 {
     let plan = StripPlan {
@@ -81,9 +88,7 @@ pub fn stream<H: Threads + Sync, T: Tray, R: Rack, S: AsStr>(
         workers: workers as usize,
     };
     match stream_workspace(alloc, outline, &plan) {
-        Ok(workspace) => stream_in(
-            rt, alloc, trays, racks, inputs, outputs, report, outline, &plan, workspace,
-        ),
+        Ok(workspace) => stream_in(rt, alloc, trays, racks, names, outline, &plan, workspace),
         Err(OutOfMemory) => Err(TrapsheetError::Common(CommonError::Memory)),
     }
 }
@@ -94,32 +99,31 @@ fn stream_in<H: Threads + Sync, T: Tray, R: Rack, S: AsStr>(
     alloc: Global,
     trays: &mut [T],
     racks: &mut [R],
-    inputs: &[S],
-    outputs: &[S],
-    report: &str,
+    names: &SheetNames<'_, S>,
     outline: &PageParts,
     plan: &StripPlan,
     workspace: StreamWorkspace,
 ) -> Result<(), TrapsheetError>
     requires can { CanStream outline.now plan.now }
     requires header { plan.now.header ≡ sheet_header outline.now }
-    requires inputs { length inputs.now ≡ plates outline.now }
-    requires outputs { length outputs.now ≡ plates outline.now }
+    requires inputs { length names.now.plates.inputs.now ≡ plates outline.now }
+    requires outputs { length names.now.plates.outputs.now ≡ plates outline.now }
     requires trays { plates outline.now ≤ length trays.old }
     requires racks { plates outline.now ≤ length racks.old }
     requires workspace { IsStreamWorkspace outline.now plan.now workspace }
     requires counts { AreNone outline.now workspace.counts }
-    ensures { let course = course_of (map S.text inputs.now) (map S.text outputs.now) (map T.state trays.old) (map R.state racks.old) in
-        StreamsOut course report.now outline.now (map T.state trays.new) (map R.state racks.new)
+    ensures { let course = course_of (map S.text names.now.plates.inputs.now) (map S.text
+        names.now.plates.outputs.now) (map T.state trays.old) (map R.state racks.old) in
+        StreamsOut course names.now.report.now outline.now (map T.state trays.new) (map R.state
+        racks.new)
         result }
 {
     let mut used = workspace;
-    let ended = stream_sheet(
-        rt, alloc, trays, racks, inputs, outputs, outline, plan, &mut used,
-    );
+    let plates = &names.plates;
+    let ended = stream_sheet(rt, alloc, trays, racks, plates, outline, plan, &mut used);
     let counts = counts_in(used);
     match ended {
-        Ok(()) => write_counts(racks, report, outline, counts),
+        Ok(()) => write_counts(racks, names.report, outline, counts),
         Err(error) => Err(stream_error(error)),
     }
 }

@@ -19,7 +19,7 @@ use page_model::parts::{OutOfMemory, Tints};
 use sheet_engine::counting::no_sheet_counts;
 use sheet_engine::counts::SheetCounts;
 use sheet_engine::rows::strip_tints;
-use sheet_engine::workspace::{StripWorkspace, trap_strip_in};
+use sheet_engine::workspace::{RowPlan, StripWorkspace, trap_strip_in};
 use sheet_geometry::spans::{Ruler, Span, spans_of};
 use sheet_geometry::window_sheet::Sheet;
 use std::alloc::Global;
@@ -66,7 +66,8 @@ fn add_strip(
     requires rulers { AreRulers sheet.now across.now down.now }
     requires columns { AreSpans across.now 0 (columns_in workspace.now) (width sheet.now) }
     requires row { IsSomeSpan down.now row.now }
-    requires tiles { tiles_in workspace.now ≡ map (planes_of sheet.now row.now) (columns_in workspace.now) }
+    requires tiles { tiles_in workspace.now ≡ map (planes_of sheet.now row.now) (columns_in
+        workspace.now) }
     requires line { length line.old ≡ width sheet.now }
     requires plates { length out.old ≡ plates sheet.now }
     ensures line { length line.new ≡ length line.old }
@@ -123,52 +124,74 @@ fn fit_workspace(
     StripWorkspace::new(alloc, sheet, across, down, columns, row)
 }
 
+/// How a sheet is cut, and by how many workers it is trapped.
+#[derive(Clone, Copy, Drop)]
+struct SheetCut<'a> {
+    across: &'a Ruler,
+    down: &'a Ruler,
+    columns: &'a [Span],
+    rows: &'a [Span],
+    workers: usize,
+}
+
+/// A sheet that is being trapped: the new tints of its upper strips, their counts, and a buffer for a row.
+#[derive(Drop)]
+struct SheetWork {
+    line: Vec<u16>,
+    tints: List<Tints>,
+    counts: SheetCounts,
+}
+
 /// Traps a strip, and appends its new tints to those of the strips above it. Returns the buffers that it used.
 fn trap_row<H: Threads + Sync>(
     rt: &H,
     alloc: Global,
     sheet: &Sheet,
-    across: &Ruler,
-    down: &Ruler,
-    columns: &[Span],
+    cut: &SheetCut<'_>,
     row: &Span,
     at: u32,
-    workers: usize,
     kept: Option<KeptWorkspace>,
-    line: &mut [u16],
-    tints: &mut List<Tints>,
-    counts: &mut SheetCounts,
+    work: &mut SheetWork,
 ) -> Result<KeptWorkspace, OutOfMemory>
-    requires some_workers { 1 ≤ workers }
-    requires rulers { AreRulers sheet.now across.now down.now }
-    requires small { AreSmall sheet.now across.now down.now }
-    requires columns { AreSpans across.now 0 columns.now (width sheet.now) }
-    requires some { All (IsSomeSpan across.now) columns.now }
-    requires row { IsSpan down.now at row.now }
-    requires some_row { IsSomeSpan down.now row.now }
-    requires kept { IfSome kept (IsKept (form_of sheet.now) columns.now) }
-    requires line { length line.old ≡ width sheet.now }
-    requires plates { length tints.old ≡ plates sheet.now }
-    requires workspace { HasWorkspaces sheet.now (width sheet.now * row.now.core) counts.old }
-    ensures kept { IfOk result (IsKept (form_of sheet.now) columns.now) }
-    ensures line { length line.new ≡ length line.old }
-    ensures tints { OnOk result (HasStrip sheet.now columns.now row.now tints.old tints.new) }
+    requires some_workers { 1 ≤ cut.now.workers }
+    requires rulers { AreRulers sheet.now cut.now.across.now cut.now.down.now }
+    requires small { AreSmall sheet.now cut.now.across.now cut.now.down.now }
+    requires columns { AreSpans cut.now.across.now 0 cut.now.columns.now (width sheet.now) }
+    requires some { All (IsSomeSpan cut.now.across.now) cut.now.columns.now }
+    requires row { IsSpan cut.now.down.now at row.now }
+    requires some_row { IsSomeSpan cut.now.down.now row.now }
+    requires kept { IfSome kept (IsKept (form_of sheet.now) cut.now.columns.now) }
+    requires line { length work.old.line.items ≡ width sheet.now }
+    requires plates { length work.old.tints ≡ plates sheet.now }
+    requires workspace { HasWorkspaces sheet.now (width sheet.now * row.now.core) work.old.counts }
+    ensures kept { IfOk result (IsKept (form_of sheet.now) cut.now.columns.now) }
+    ensures line { length work.new.line.items ≡ length work.old.line.items }
+    ensures tints { OnOk result (HasStrip sheet.now cut.now.columns.now row.now work.old.tints
+        work.new.tints) }
     ensures counts { OnOk result (AddsArea sheet.now 0 at (width sheet.now) row.now.core
-        counts.old counts.new) }
+        work.old.counts work.new.counts) }
 {
-    let mut workspace = fit_workspace(alloc, sheet, across, down, columns, row, kept)?;
-    trap_strip_in(
-        rt,
+    let (across, down) = (cut.across, cut.down);
+    let mut workspace = fit_workspace(alloc, sheet, across, down, cut.columns, row, kept)?;
+    let plan = RowPlan {
+        across: *across,
+        down: *down,
+        row: *row,
+        at,
+    };
+    let counts = &mut work.counts;
+    trap_strip_in(rt, sheet, &plan, cut.workers, &mut workspace, counts);
+    let line = work.line.as_mut_slice();
+    add_strip(
+        alloc,
         sheet,
         across,
         down,
         row,
-        at,
-        workers,
-        &mut workspace,
-        counts,
-    );
-    add_strip(alloc, sheet, across, down, row, &workspace, line, tints)?;
+        &workspace,
+        line,
+        &mut work.tints,
+    )?;
     let tall = row.wide;
     Ok(KeptWorkspace { tall, workspace })
 }
@@ -178,33 +201,26 @@ fn trap_rows<H: Threads + Sync>(
     rt: &H,
     alloc: Global,
     sheet: &Sheet,
-    across: &Ruler,
-    down: &Ruler,
-    columns: &[Span],
-    rows: &[Span],
-    workers: usize,
-    tints: &mut List<Tints>,
-    counts: &mut SheetCounts,
+    cut: &SheetCut<'_>,
+    work: &mut SheetWork,
 ) -> Result<(), OutOfMemory>
-    requires some_workers { 1 ≤ workers }
-    requires rulers { AreRulers sheet.now across.now down.now }
-    requires small { AreSmall sheet.now across.now down.now }
-    requires columns { AreSpans across.now 0 columns.now (width sheet.now) }
-    requires rows { AreSpans down.now 0 rows.now (height sheet.now) }
-    requires tints { AreTintsTo sheet.now 0 tints.old }
-    requires counts { AreNone sheet.now counts.old }
-    ensures tints { OnOk result (AreTintsTo sheet.now (height sheet.now) tints.new) }
+    requires some_workers { 1 ≤ cut.now.workers }
+    requires rulers { AreRulers sheet.now cut.now.across.now cut.now.down.now }
+    requires small { AreSmall sheet.now cut.now.across.now cut.now.down.now }
+    requires columns { AreSpans cut.now.across.now 0 cut.now.columns.now (width sheet.now) }
+    requires rows { AreSpans cut.now.down.now 0 cut.now.rows.now (height sheet.now) }
+    requires line { length work.old.line.items ≡ width sheet.now }
+    requires tints { AreTintsTo sheet.now 0 work.old.tints }
+    requires counts { AreNone sheet.now work.old.counts }
+    ensures tints { OnOk result (AreTintsTo sheet.now (height sheet.now) work.new.tints) }
     ensures counts { OnOk result (AddsArea sheet.now 0 0 (width sheet.now) (height sheet.now)
-        counts.old counts.new) }
+        work.old.counts work.new.counts) }
 {
-    let mut line = vec_of(alloc, 0u16, sheet.width() as usize)?;
+    let _valid = sheet.width();
     let mut kept = None;
     let mut at = 0;
-    for row in rows {
-        let workspace = trap_row(
-            rt, alloc, sheet, across, down, columns, row, at, workers, kept, &mut line, tints,
-            counts,
-        )?;
+    for row in cut.rows {
+        let workspace = trap_row(rt, alloc, sheet, cut, row, at, kept, work)?;
         kept = Some(workspace);
         at += row.core;
     }
@@ -216,35 +232,31 @@ fn trap_cut<H: Threads + Sync>(
     rt: &H,
     alloc: Global,
     sheet: &Sheet,
-    across: &Ruler,
-    down: &Ruler,
-    columns: &[Span],
-    rows: &[Span],
-    workers: usize,
+    cut: &SheetCut<'_>,
 ) -> Result<TrappedSheet, OutOfMemory>
-    requires some_workers { 1 ≤ workers }
-    requires rulers { AreRulers sheet.now across.now down.now }
-    requires small { AreSmall sheet.now across.now down.now }
-    requires columns { AreSpans across.now 0 columns.now (width sheet.now) }
-    requires rows { AreSpans down.now 0 rows.now (height sheet.now) }
+    requires some_workers { 1 ≤ cut.now.workers }
+    requires rulers { AreRulers sheet.now cut.now.across.now cut.now.down.now }
+    requires small { AreSmall sheet.now cut.now.across.now cut.now.down.now }
+    requires columns { AreSpans cut.now.across.now 0 cut.now.columns.now (width sheet.now) }
+    requires rows { AreSpans cut.now.down.now 0 cut.now.rows.now (height sheet.now) }
     ensures tints { IfOk result (λ trapped. AreTintsTo sheet.now (height sheet.now) trapped.tints) }
     ensures counts { IfOk result (λ trapped. HasArea sheet.now 0 0 (width sheet.now)
         (height sheet.now) trapped.counts) }
 {
-    let mut counts = no_sheet_counts(alloc, sheet)?;
-    let mut tints = no_tints(alloc, sheet)?;
-    trap_rows(
-        rt,
-        alloc,
-        sheet,
-        across,
-        down,
-        columns,
-        rows,
-        workers,
-        &mut tints,
-        &mut counts,
-    )?;
+    let counts = no_sheet_counts(alloc, sheet)?;
+    let tints = no_tints(alloc, sheet)?;
+    let line = vec_of(alloc, 0u16, sheet.width() as usize)?;
+    let mut work = SheetWork {
+        line,
+        tints,
+        counts,
+    };
+    trap_rows(rt, alloc, sheet, cut, &mut work)?;
+    let SheetWork {
+        line: _line,
+        tints,
+        counts,
+    } = work;
     Ok(TrappedSheet { tints, counts })
 }
 
@@ -271,14 +283,12 @@ pub fn trap_sheet<H: Threads + Sync>(
 {
     let columns = spans_of(alloc, across)?;
     let rows = spans_of(alloc, down)?;
-    trap_cut(
-        rt,
-        alloc,
-        sheet,
+    let cut = SheetCut {
         across,
         down,
-        columns.as_slice(),
-        rows.as_slice(),
+        columns: columns.as_slice(),
+        rows: rows.as_slice(),
         workers,
-    )
+    };
+    trap_cut(rt, alloc, sheet, &cut)
 }

@@ -38,12 +38,10 @@ pub fn write_sheet<R: Rack, S: AsStr>(
         WritesSheet target planes.now text.now (map R.state racks.old) (map R.state racks.new)
         result }
 {
-    match write_plates(racks, names, planes) {
-        Ok(()) => match write_report(racks, report, text) {
-            Ok(()) => Ok(()),
-            Err(DeviceError) => Err(TrapsheetError::Common(CommonError::Write(None))),
-        },
-        Err(error) => Err(error),
+    write_plates(racks, names, planes)?;
+    match write_report(racks, report, text) {
+        Ok(()) => Ok(()),
+        Err(DeviceError) => Err(TrapsheetError::Common(CommonError::Write(None))),
     }
 }
 

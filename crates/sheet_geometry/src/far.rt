@@ -14,7 +14,7 @@ use page_model::bounds::MOST_COORDINATE;
 use page_model::parts::{PageParts, Vertex};
 
 /// Returns `found`, or `later` where that is `None`.
-pub fn earlier(found: Option<SheetError>, later: Option<SheetError>) -> Option<SheetError>
+pub fn earlier<E: Drop>(found: Option<E>, later: Option<E>) -> Option<E>
     ensures { result ≡ or_else found later }
 {
     match found {

@@ -1,7 +1,7 @@
 // The checks of a sheet before its tints are read.
 
 ghost use Rattle.std.specs.Prelude.{◌≡◌, ◌<◌, ◌≤◌, ◌^◌, length};
-ghost use Rattle.lists.specs.Words.{first_some, greatest_below, or_else};
+ghost use Rattle.lists.specs.Words.{first_some, greatest_below};
 ghost use Rattle.page_model.specs.Columns.{halo};
 ghost use Rattle.page_model.specs.Faults.{too_wide};
 ghost use Rattle.page_model.specs.Limits.{most_reach};
@@ -71,15 +71,6 @@ fn width_fault(sheet: &PageParts, z: u32) -> Option<PageFault>
     }
 }
 
-fn earlier_fault(found: Option<PageFault>, later: Option<PageFault>) -> Option<PageFault>
-    ensures { result ≡ or_else found later }
-{
-    match found {
-        Some(fault) => Some(fault),
-        None => later,
-    }
-}
-
 /// The first zone that reaches too far.
 fn first_wide(sheet: &PageParts) -> Option<PageFault>
     requires { IsOutlineParts sheet.now }
@@ -87,7 +78,7 @@ fn first_wide(sheet: &PageParts) -> Option<PageFault>
 {
     let mut found = None;
     for z in 0..sheet.zones.len() as u32 {
-        found = earlier_fault(found, width_fault(sheet, z));
+        found = earlier(found, width_fault(sheet, z));
     }
     found
 }
@@ -97,7 +88,7 @@ pub fn parts_fault_of(sheet: &PageParts) -> Option<PageFault>
     requires { IsOutlineParts sheet.now }
     ensures { result ≡ parts_fault sheet.now }
 {
-    earlier_fault(first_difference(sheet), first_wide(sheet))
+    earlier(first_difference(sheet), first_wide(sheet))
 }
 
 /// The reach of a sheet in half-samples: the greatest reach of its enabled zones.

@@ -17,8 +17,8 @@ use lists::list::List;
 use page_model::parts::{Plane, PlaneList, Vertex, VertexList, Zone, ZoneList};
 use std::alloc::Global;
 
-/// Writes a row to `tints`, from one place on.
-fn put_run(run: &[u16], from: usize, tints: &mut [u16])
+/// Writes a run of tints to `tints`, from one place on.
+pub fn put_run(run: &[u16], from: usize, tints: &mut [u16])
     requires { from + length run.now ≤ length tints.old }
     ensures { tints.new ≡ take from tints.old ++ (run.now
         ++ drop (from + length run.now) tints.old) }

@@ -4,21 +4,19 @@ ghost use Rattle.std.specs.Prelude.{◌≡◌, ◌≤◌, length, map};
 ghost use Rattle.sheet_stream.specs.Reading.{CanReadRow, ReadsRow};
 ghost use Rattle.sheet_stream.specs.Ready.{IsTrappable, TrapsRow};
 
-use crate::parts::StripPlan;
+use crate::parts::{OpenSheet, StripPlan};
 use crate::rows::Progress;
 use crate::stored_rows::read_ahead;
 use crate::strip::trap_row;
 use crate::zones::turn_to;
 use outside::tray::Tray;
 use page_model::parts::PageParts;
-use pgm_plates::rows::OpenPlate;
 use plate_rows::error::RereadError;
 use plate_rows::rereading::NextRows;
 use sheet_engine::counts::SheetCounts;
 use sheet_engine::workspace::StripWorkspace;
 use sheet_geometry::spans::Span;
 use sheet_geometry::window_sheet::Sheet;
-use std::alloc::Global;
 use std::thread;
 use std::thread::Threads;
 
@@ -27,27 +25,24 @@ use std::thread::Threads;
 ///
 /// It stops at the first plate that has a fault now or can't be read.
 pub fn read_row<T: Tray>(
-    alloc: Global,
     trays: &mut [T],
-    outline: &PageParts,
-    plan: &StripPlan,
-    plates: &[OpenPlate],
+    sheet: &OpenSheet<'_>,
     progress: &Progress,
     row: &Span,
     strip: &PageParts,
     ahead: &mut PageParts,
     bytes: &mut Vec<u8>,
 ) -> Result<(), RereadError>
-    requires can { CanReadRow outline.now plan.now plates.now progress.now row.now
-        (map T.state trays.old) strip.now ahead.old }
-    requires trays { length plates.now ≤ length trays.old }
+    requires can { CanReadRow sheet.now.outline.now sheet.now.plan.now sheet.now.plates.now
+        progress.now row.now (map T.state trays.old) strip.now ahead.old }
+    requires trays { length sheet.now.plates.now ≤ length trays.old }
     requires bytes { 2 ≤ length bytes.old.items }
-    ensures read { ReadsRow outline.now plates.now progress.now row.now strip.now ahead.new
-        (map T.state trays.old) (map T.state trays.new) result }
+    ensures read { ReadsRow sheet.now.outline.now sheet.now.plates.now progress.now row.now
+        strip.now ahead.new (map T.state trays.old) (map T.state trays.new) result }
     ensures bytes { length bytes.new.items ≡ length bytes.old.items }
 {
-    turn_to(outline, row, ahead);
-    let wide = outline.planes.as_slice()[0].width;
+    turn_to(sheet.outline, row, ahead);
+    let wide = sheet.outline.planes.as_slice()[0].width;
     let kept = progress.read - row.from;
     let gone = row.from - progress.from;
     let next = NextRows {
@@ -55,7 +50,16 @@ pub fn read_row<T: Tray>(
         kept: kept as usize * wide as usize,
     };
     let by = gone as usize * wide as usize;
-    read_ahead(alloc, trays, plates, next, strip, by, ahead, bytes)
+    read_ahead(
+        sheet.alloc,
+        trays,
+        sheet.plates,
+        next,
+        strip,
+        by,
+        ahead,
+        bytes,
+    )
 }
 
 /// Traps a strip and counts its core, and does some other work: side by side, with the other work in the caller's

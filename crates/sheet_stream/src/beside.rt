@@ -9,15 +9,13 @@ ghost use Rattle.sheet_stream.specs.OnSheet.{strip_cut};
 
 use crate::ahead::read_row;
 use crate::error::StreamError;
-use crate::parts::StripPlan;
-use crate::rows::Progress;
+use crate::parts::{Neighbours, OpenSheet, StripPlan};
 use crate::strip::{CoreWorkspace, write_row};
 use common_errors::common::CommonError;
 use lists::list::List;
 use outside::rack::Rack;
 use outside::tray::Tray;
 use page_model::parts::PageParts;
-use pgm_plates::rows::OpenPlate;
 use sheet_geometry::spans::Span;
 use sheet_geometry::window_sheet::Sheet;
 use std::alloc::Global;
@@ -57,39 +55,41 @@ pub fn write_waiting<R: Rack>(
 /// It stops where a call of a rack fails, with nothing read, and at the first plate that has a fault now or can't be
 /// read.
 pub fn write_and_read<T: Tray, R: Rack>(
-    alloc: Global,
     trays: &mut [T],
     racks: &mut [R],
-    outline: &PageParts,
-    plan: &StripPlan,
-    plates: &[OpenPlate],
-    progress: &Progress,
-    last: &Span,
-    next: &Span,
+    sheet: &OpenSheet<'_>,
+    around: &Neighbours,
     strip: &PageParts,
     ahead: &mut PageParts,
     core: &mut CoreWorkspace,
     bytes: &mut Vec<u8>,
 ) -> Result<(), StreamError>
-    requires opened { PlatesOpen plan.now ahead.old (map R.state racks.old) }
-    requires waiting { IsWaiting plan.now last.now ahead.old core.old }
-    requires can { CanReadRow outline.now plan.now plates.now progress.now next.now
-        (map T.state trays.old) strip.now ahead.old }
-    requires trays { length plates.now ≤ length trays.old }
-    requires count { length ahead.old.planes ≡ length plates.now }
-    requires racks { length plates.now ≤ length racks.old }
+    requires opened { PlatesOpen sheet.now.plan.now ahead.old (map R.state racks.old) }
+    requires waiting { IsWaiting sheet.now.plan.now around.now.last ahead.old core.old }
+    requires can { CanReadRow sheet.now.outline.now sheet.now.plan.now sheet.now.plates.now
+        around.now.progress around.now.next (map T.state trays.old) strip.now ahead.old }
+    requires trays { length sheet.now.plates.now ≤ length trays.old }
+    requires count { length ahead.old.planes ≡ length sheet.now.plates.now }
+    requires racks { length sheet.now.plates.now ≤ length racks.old }
     requires bytes { 2 ≤ length bytes.old.items }
     ensures windows { core.new.windows ≡ core.old.windows }
     ensures line { length core.new.line.items ≡ length core.old.line.items }
     ensures spelled { length core.new.bytes.items ≡ length core.old.bytes.items }
     ensures bytes { length bytes.new.items ≡ length bytes.old.items }
-    ensures does { WritesAndReads outline.now plan.now plates.now progress.now last.now next.now
-        strip.now ahead.old ahead.new (map T.state trays.old) (map T.state trays.new)
-        (map R.state racks.old) (map R.state racks.new) result }
+    ensures does { WritesAndReads sheet.now.outline.now sheet.now.plan.now sheet.now.plates.now
+        around.now.progress around.now.last around.now.next strip.now ahead.old ahead.new
+        (map T.state trays.old) (map T.state trays.new) (map R.state racks.old)
+        (map R.state racks.new) result }
 {
-    match write_waiting(alloc, racks, plan, last, ahead, core) {
+    match write_waiting(sheet.alloc, racks, sheet.plan, &around.last, ahead, core) {
         Ok(()) => match read_row(
-            alloc, trays, outline, plan, plates, progress, next, strip, ahead, bytes,
+            trays,
+            sheet,
+            &around.progress,
+            &around.next,
+            strip,
+            ahead,
+            bytes,
         ) {
             Ok(()) => Ok(()),
             Err(error) => Err(StreamError::Unread(error)),

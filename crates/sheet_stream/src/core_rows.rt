@@ -154,10 +154,7 @@ pub fn write_core<R: Rack>(
         let each = n as usize * wide;
         let rows = &mut line[..count * each];
         put_rows(strip, cut, workspace, k, n, rows);
-        match write_next(racks, count, header, rows, each, bytes) {
-            Ok(()) => {}
-            Err(common_error) => return Err(common_error),
-        }
+        write_next(racks, count, header, rows, each, bytes)?;
         k += n;
     }
     Ok(())

@@ -9,16 +9,13 @@ ghost use Rattle.sheet_stream.specs.Waiting.{IsWaiting, PlatesOpen, WritesAndRea
 use crate::ahead::{read_row, trap_while};
 use crate::beside::write_and_read;
 use crate::error::StreamError;
-use crate::parts::StripPlan;
+use crate::parts::{Neighbours, OpenSheet};
 use crate::rows::progress_after;
 use crate::workspace::StreamWorkspace;
 use outside::rack::Rack;
 use outside::tray::Tray;
-use page_model::parts::PageParts;
-use pgm_plates::rows::OpenPlate;
 use plate_rows::error::RereadError;
 use sheet_geometry::spans::Span;
-use std::alloc::Global;
 use std::thread::Threads;
 
 /// Traps the current strip and counts its core, and makes the next strip: side by side, with the reading in the
@@ -27,31 +24,29 @@ use std::thread::Threads;
 /// It stops at the first plate that has a fault now or can't be read.
 pub fn trap_and_read<H: Threads + Sync, T: Tray>(
     rt: &H,
-    alloc: Global,
     trays: &mut [T],
-    outline: &PageParts,
-    plan: &StripPlan,
-    plates: &[OpenPlate],
+    sheet: &OpenSheet<'_>,
     row: &Span,
     next: &Span,
     workspace: &mut StreamWorkspace,
 ) -> Result<(), RereadError>
-    requires row { IsStripRow plan.now.down row.now }
-    requires trap { IsTrappable plan.now row.now workspace.old.strip workspace.old.windows
+    requires row { IsStripRow sheet.now.plan.now.down row.now }
+    requires trap { IsTrappable sheet.now.plan.now row.now workspace.old.strip workspace.old.windows
         workspace.old.counts }
-    requires can { CanReadRow outline.now plan.now plates.now (gone_on row.now) next.now
-        (map T.state trays.old) workspace.old.strip workspace.old.ahead }
-    requires trays { length plates.now ≤ length trays.old }
+    requires can { CanReadRow sheet.now.outline.now sheet.now.plan.now sheet.now.plates.now
+        (gone_on row.now) next.now (map T.state trays.old) workspace.old.strip workspace.old.ahead }
+    requires trays { length sheet.now.plates.now ≤ length trays.old }
     requires pieces { 2 ≤ length workspace.old.pieces.items }
     ensures strip { workspace.new.strip ≡ workspace.old.strip }
-    ensures trapped { TrapsRow plan.now row.now workspace.old.strip workspace.old.windows
+    ensures trapped { TrapsRow sheet.now.plan.now row.now workspace.old.strip workspace.old.windows
         workspace.new.windows workspace.old.counts workspace.new.counts }
     ensures core { workspace.new.core ≡ workspace.old.core }
     ensures pieces { length workspace.new.pieces.items ≡ length workspace.old.pieces.items }
-    ensures read { ReadsRow outline.now plates.now (gone_on row.now) next.now workspace.old.strip
-        workspace.new.ahead (map T.state trays.old) (map T.state trays.new) result }
+    ensures read { ReadsRow sheet.now.outline.now sheet.now.plates.now (gone_on row.now) next.now
+        workspace.old.strip workspace.new.ahead (map T.state trays.old) (map T.state trays.new)
+        result }
 {
-    let progress = &progress_after(&plan.down, row);
+    let progress = &progress_after(&sheet.plan.down, row);
     let strip = &workspace.strip;
     let parts = strip.parts();
     let windows = &mut workspace.windows;
@@ -60,21 +55,17 @@ pub fn trap_and_read<H: Threads + Sync, T: Tray>(
     let pieces = &mut workspace.pieces;
     trap_while(
         rt,
-        plan,
+        sheet.plan,
         row,
         strip,
         windows,
         counts,
         &mut || -> Result<(), RereadError>
-            requires can { CanReadRow outline.now plan.now plates.now progress.now next.now
-                (map T.state trays.now) parts.now ahead.now }
-            requires trays { length plates.now ≤ length trays.now }
+            requires can { CanReadRow sheet.now.outline.now sheet.now.plan.now sheet.now.plates.now
+                progress.now next.now (map T.state trays.now) parts.now ahead.now }
+            requires trays { length sheet.now.plates.now ≤ length trays.now }
             requires pieces { 2 ≤ length pieces.now.items }
-        {
-            read_row(
-                alloc, trays, outline, plan, plates, progress, next, parts, ahead, pieces,
-            )
-        },
+        { read_row(trays, sheet, progress, next, parts, ahead, pieces) },
     )
 }
 
@@ -86,40 +77,42 @@ pub fn trap_and_read<H: Threads + Sync, T: Tray>(
 /// read.
 pub fn trap_beside<H: Threads + Sync, T: Tray, R: Rack>(
     rt: &H,
-    alloc: Global,
     trays: &mut [T],
     racks: &mut [R],
-    outline: &PageParts,
-    plan: &StripPlan,
-    plates: &[OpenPlate],
+    sheet: &OpenSheet<'_>,
     last: &Span,
     row: &Span,
     next: &Span,
     workspace: &mut StreamWorkspace,
 ) -> Result<(), StreamError>
-    requires row { IsStripRow plan.now.down row.now }
-    requires trap { IsTrappable plan.now row.now workspace.old.strip workspace.old.windows
+    requires row { IsStripRow sheet.now.plan.now.down row.now }
+    requires trap { IsTrappable sheet.now.plan.now row.now workspace.old.strip workspace.old.windows
         workspace.old.counts }
-    requires opened { PlatesOpen plan.now workspace.old.ahead (map R.state racks.old) }
-    requires waiting { IsWaiting plan.now last.now workspace.old.ahead workspace.old.core }
-    requires can { CanReadRow outline.now plan.now plates.now (gone_on row.now) next.now
-        (map T.state trays.old) workspace.old.strip workspace.old.ahead }
-    requires trays { length plates.now ≤ length trays.old }
-    requires count { length workspace.old.ahead.planes ≡ length plates.now }
-    requires racks { length plates.now ≤ length racks.old }
+    requires opened { PlatesOpen sheet.now.plan.now workspace.old.ahead (map R.state racks.old) }
+    requires waiting { IsWaiting sheet.now.plan.now last.now workspace.old.ahead workspace.old.core }
+    requires can { CanReadRow sheet.now.outline.now sheet.now.plan.now sheet.now.plates.now
+        (gone_on row.now) next.now (map T.state trays.old) workspace.old.strip workspace.old.ahead }
+    requires trays { length sheet.now.plates.now ≤ length trays.old }
+    requires count { length workspace.old.ahead.planes ≡ length sheet.now.plates.now }
+    requires racks { length sheet.now.plates.now ≤ length racks.old }
     requires pieces { 2 ≤ length workspace.old.pieces.items }
     ensures strip { workspace.new.strip ≡ workspace.old.strip }
-    ensures trapped { TrapsRow plan.now row.now workspace.old.strip workspace.old.windows
+    ensures trapped { TrapsRow sheet.now.plan.now row.now workspace.old.strip workspace.old.windows
         workspace.new.windows workspace.old.counts workspace.new.counts }
     ensures windows { workspace.new.core.windows ≡ workspace.old.core.windows }
     ensures line { length workspace.new.core.line.items ≡ length workspace.old.core.line.items }
     ensures bytes { length workspace.new.core.bytes.items ≡ length workspace.old.core.bytes.items }
     ensures pieces { length workspace.new.pieces.items ≡ length workspace.old.pieces.items }
-    ensures does { WritesAndReads outline.now plan.now plates.now (gone_on row.now) last.now next.now
-        workspace.old.strip workspace.old.ahead workspace.new.ahead (map T.state trays.old)
-        (map T.state trays.new) (map R.state racks.old) (map R.state racks.new) result }
+    ensures does { WritesAndReads sheet.now.outline.now sheet.now.plan.now sheet.now.plates.now
+        (gone_on row.now) last.now next.now workspace.old.strip workspace.old.ahead
+        workspace.new.ahead (map T.state trays.old) (map T.state trays.new) (map R.state racks.old)
+        (map R.state racks.new) result }
 {
-    let progress = &progress_after(&plan.down, row);
+    let around = &Neighbours {
+        last: *last,
+        progress: progress_after(&sheet.plan.down, row),
+        next: *next,
+    };
     let strip = &workspace.strip;
     let parts = strip.parts();
     let windows = &mut workspace.windows;
@@ -129,25 +122,20 @@ pub fn trap_beside<H: Threads + Sync, T: Tray, R: Rack>(
     let pieces = &mut workspace.pieces;
     trap_while(
         rt,
-        plan,
+        sheet.plan,
         row,
         strip,
         windows,
         counts,
         &mut || -> Result<(), StreamError>
-            requires opened { PlatesOpen plan.now ahead.now (map R.state racks.now) }
-            requires waiting { IsWaiting plan.now last.now ahead.now core.now }
-            requires can { CanReadRow outline.now plan.now plates.now progress.now next.now
-                (map T.state trays.now) parts.now ahead.now }
-            requires trays { length plates.now ≤ length trays.now }
-            requires count { length ahead.now.planes ≡ length plates.now }
-            requires racks { length plates.now ≤ length racks.now }
+            requires opened { PlatesOpen sheet.now.plan.now ahead.now (map R.state racks.now) }
+            requires waiting { IsWaiting sheet.now.plan.now around.now.last ahead.now core.now }
+            requires can { CanReadRow sheet.now.outline.now sheet.now.plan.now sheet.now.plates.now
+                around.now.progress around.now.next (map T.state trays.now) parts.now ahead.now }
+            requires trays { length sheet.now.plates.now ≤ length trays.now }
+            requires count { length ahead.now.planes ≡ length sheet.now.plates.now }
+            requires racks { length sheet.now.plates.now ≤ length racks.now }
             requires pieces { 2 ≤ length pieces.now.items }
-        {
-            write_and_read(
-                alloc, trays, racks, outline, plan, plates, progress, last, next, parts, ahead,
-                core, pieces,
-            )
-        },
+        { write_and_read(trays, racks, sheet, around, parts, ahead, core, pieces) },
     )
 }

@@ -13,7 +13,7 @@ ghost use Rattle.sheet_engine.specs.Works.{AreNone};
 ghost use Rattle.page_model.specs.Limits.{most_plates};
 
 use crate::error::StreamError;
-use crate::parts::StripPlan;
+use crate::parts::{OpenSheet, PlateNames, StripPlan};
 use crate::strips::stream_strips;
 use crate::workspace::StreamWorkspace;
 use outside::rack::Rack;
@@ -38,21 +38,21 @@ pub fn stream_sheet<H: Threads + Sync, T: Tray, R: Rack, S: AsStr>(
     alloc: Global,
     trays: &mut [T],
     racks: &mut [R],
-    inputs: &[S],
-    outputs: &[S],
+    names: &PlateNames<'_, S>,
     outline: &PageParts,
     plan: &StripPlan,
     workspace: &mut StreamWorkspace,
 ) -> Result<(), StreamError>
     requires can { CanStream outline.now plan.now }
     requires header { plan.now.header ≡ sheet_header outline.now }
-    requires inputs { length inputs.now ≡ plates outline.now }
-    requires outputs { length outputs.now ≡ plates outline.now }
+    requires inputs { length names.now.inputs.now ≡ plates outline.now }
+    requires outputs { length names.now.outputs.now ≡ plates outline.now }
     requires trays { plates outline.now ≤ length trays.old }
     requires racks { plates outline.now ≤ length racks.old }
     requires workspace { IsStreamWorkspace outline.now plan.now workspace.old }
     requires counts { AreNone outline.now workspace.old.counts }
-    ensures { let course = course_of (map S.text inputs.now) (map S.text outputs.now)
+    ensures { let course = course_of (map S.text names.now.inputs.now) (map S.text
+        names.now.outputs.now)
         (map T.state trays.old) (map R.state racks.old) in
         StreamsSheet course outline.now plan.now.header workspace.new.counts (map T.state trays.new)
         (map R.state racks.new) result }
@@ -63,12 +63,16 @@ pub fn stream_sheet<H: Threads + Sync, T: Tray, R: Rack, S: AsStr>(
     };
     let mut plates = [none; MOST_PLATES];
     let headers = [plan.header; MOST_PLATES];
-    match begin_plates(trays, inputs, &headers, &mut plates) {
+    match begin_plates(trays, names.inputs, &headers, &mut plates) {
         Ok(()) => {
-            let begun = &plates[..inputs.len()];
-            write_sheet(
-                rt, alloc, trays, racks, outputs, outline, plan, begun, workspace,
-            )
+            let begun = &plates[..names.inputs.len()];
+            let sheet = OpenSheet {
+                alloc,
+                outline,
+                plan,
+                plates: begun,
+            };
+            write_sheet(rt, trays, racks, names.outputs, &sheet, workspace)
         }
         Err(error) => Err(StreamError::Unread(error)),
     }
@@ -77,29 +81,26 @@ pub fn stream_sheet<H: Threads + Sync, T: Tray, R: Rack, S: AsStr>(
 // Does the same with the plates begun.
 fn write_sheet<H: Threads + Sync, T: Tray, R: Rack, S: AsStr>(
     rt: &H,
-    alloc: Global,
     trays: &mut [T],
     racks: &mut [R],
     outputs: &[S],
-    outline: &PageParts,
-    plan: &StripPlan,
-    plates: &[OpenPlate],
+    sheet: &OpenSheet<'_>,
     workspace: &mut StreamWorkspace,
 ) -> Result<(), StreamError>
-    requires can { CanStream outline.now plan.now }
-    requires headers { HaveHeader outline.now plates.now }
-    requires outputs { length outputs.now ≡ length plates.now }
-    requires trays { length plates.now ≤ length trays.old }
-    requires racks { length plates.now ≤ length racks.old }
-    requires workspace { IsStreamWorkspace outline.now plan.now workspace.old }
-    requires counts { AreNone outline.now workspace.old.counts }
-    requires read { IsBegun plates.now (map T.state trays.old) }
-    ensures { WritesBegun (map S.text outputs.now) outline.now plan.now plates.now workspace.new.counts
-        (map T.state trays.old) (map T.state trays.new) (map R.state racks.old)
-        (map R.state racks.new) result }
+    requires can { CanStream sheet.now.outline.now sheet.now.plan.now }
+    requires headers { HaveHeader sheet.now.outline.now sheet.now.plates.now }
+    requires outputs { length outputs.now ≡ length sheet.now.plates.now }
+    requires trays { length sheet.now.plates.now ≤ length trays.old }
+    requires racks { length sheet.now.plates.now ≤ length racks.old }
+    requires workspace { IsStreamWorkspace sheet.now.outline.now sheet.now.plan.now workspace.old }
+    requires counts { AreNone sheet.now.outline.now workspace.old.counts }
+    requires read { IsBegun sheet.now.plates.now (map T.state trays.old) }
+    ensures { WritesBegun (map S.text outputs.now) sheet.now.outline.now sheet.now.plan.now
+        sheet.now.plates.now workspace.new.counts (map T.state trays.old) (map T.state trays.new)
+        (map R.state racks.old) (map R.state racks.new) result }
 {
-    match begin_images(racks, outputs, plan.header) {
-        Ok(()) => write_begun(rt, alloc, trays, racks, outline, plan, plates, workspace),
+    match begin_images(racks, outputs, sheet.plan.header) {
+        Ok(()) => write_begun(rt, trays, racks, sheet, workspace),
         Err(common_error) => Err(StreamError::Unwritten(common_error)),
     }
 }
@@ -107,29 +108,25 @@ fn write_sheet<H: Threads + Sync, T: Tray, R: Rack, S: AsStr>(
 // Does the same with the plates and the files begun.
 fn write_begun<H: Threads + Sync, T: Tray, R: Rack>(
     rt: &H,
-    alloc: Global,
     trays: &mut [T],
     racks: &mut [R],
-    outline: &PageParts,
-    plan: &StripPlan,
-    plates: &[OpenPlate],
+    sheet: &OpenSheet<'_>,
     workspace: &mut StreamWorkspace,
 ) -> Result<(), StreamError>
-    requires can { CanStream outline.now plan.now }
-    requires headers { HaveHeader outline.now plates.now }
-    requires trays { length plates.now ≤ length trays.old }
-    requires racks { length plates.now ≤ length racks.old }
-    requires workspace { IsStreamWorkspace outline.now plan.now workspace.old }
-    requires counts { AreNone outline.now workspace.old.counts }
-    requires started { IsStarted outline.now plan.now plates.now (map T.state trays.old)
-        (map R.state racks.old) }
-    ensures { EndsCourse outline.now plan.now plates.now workspace.new.counts (map T.state trays.old)
-        (map T.state trays.new) (map R.state racks.old) (map R.state racks.new) result }
+    requires can { CanStream sheet.now.outline.now sheet.now.plan.now }
+    requires headers { HaveHeader sheet.now.outline.now sheet.now.plates.now }
+    requires trays { length sheet.now.plates.now ≤ length trays.old }
+    requires racks { length sheet.now.plates.now ≤ length racks.old }
+    requires workspace { IsStreamWorkspace sheet.now.outline.now sheet.now.plan.now workspace.old }
+    requires counts { AreNone sheet.now.outline.now workspace.old.counts }
+    requires started { IsStarted sheet.now.outline.now sheet.now.plan.now sheet.now.plates.now
+        (map T.state trays.old) (map R.state racks.old) }
+    ensures { EndsCourse sheet.now.outline.now sheet.now.plan.now sheet.now.plates.now
+        workspace.new.counts (map T.state trays.old) (map T.state trays.new) (map R.state racks.old)
+        (map R.state racks.new) result }
 {
-    match stream_strips(rt, alloc, trays, racks, outline, plan, plates, workspace) {
-        Ok(()) => end_sheet(trays, racks, plates),
-        Err(error) => Err(error),
-    }
+    stream_strips(rt, trays, racks, sheet, workspace)?;
+    end_sheet(trays, racks, sheet.plates)
 }
 
 // Checks that nothing stands after the plates, and finishes the files.

@@ -16,7 +16,7 @@ ghost use Rattle.sheet_stream.specs.Ready.{IsTrappable, TrapsRow};
 
 use crate::ahead::read_row;
 use crate::error::StreamError;
-use crate::parts::StripPlan;
+use crate::parts::{OpenSheet, StripPlan};
 use crate::pipeline::{trap_and_read, trap_beside};
 use crate::rows::Progress;
 use crate::strip::{trap_row, write_row};
@@ -24,34 +24,29 @@ use crate::workspace::{StreamWorkspace, change_places};
 use common_errors::common::CommonError;
 use outside::rack::Rack;
 use outside::tray::Tray;
-use page_model::parts::PageParts;
-use pgm_plates::rows::OpenPlate;
 use plate_rows::error::RereadError;
 use sheet_geometry::spans::Span;
-use std::alloc::Global;
 use std::thread::Threads;
 
 /// Reads the rows of the first strip, which becomes the current one, plate k by tray k. It allocates nothing.
 ///
 /// It stops at the first plate that has a fault now or can't be read.
 pub fn read_first<T: Tray>(
-    alloc: Global,
     trays: &mut [T],
-    outline: &PageParts,
-    plan: &StripPlan,
-    plates: &[OpenPlate],
+    sheet: &OpenSheet<'_>,
     row: &Span,
     workspace: &mut StreamWorkspace,
 ) -> Result<(), RereadError>
-    requires can { CanStream outline.now plan.now }
-    requires headers { HaveHeader outline.now plates.now }
-    requires trays { length plates.now ≤ length trays.old }
-    requires row { IsNextRow plan.now.down not_begun row.now }
-    requires workspace { IsStreamWorkspace outline.now plan.now workspace.old }
-    requires begun { IsBegun plates.now (map T.state trays.old) }
-    ensures workspace { OnOk result (IsStreamWorkspace outline.now plan.now workspace.new) }
-    ensures begins { BeginsAt outline.now plan.now plates.now row.now (map T.state trays.old)
-        (map T.state trays.new) workspace.old workspace.new result }
+    requires can { CanStream sheet.now.outline.now sheet.now.plan.now }
+    requires headers { HaveHeader sheet.now.outline.now sheet.now.plates.now }
+    requires trays { length sheet.now.plates.now ≤ length trays.old }
+    requires row { IsNextRow sheet.now.plan.now.down not_begun row.now }
+    requires workspace { IsStreamWorkspace sheet.now.outline.now sheet.now.plan.now workspace.old }
+    requires begun { IsBegun sheet.now.plates.now (map T.state trays.old) }
+    ensures workspace { OnOk result
+        (IsStreamWorkspace sheet.now.outline.now sheet.now.plan.now workspace.new) }
+    ensures begins { BeginsAt sheet.now.outline.now sheet.now.plan.now sheet.now.plates.now row.now
+        (map T.state trays.old) (map T.state trays.new) workspace.old workspace.new result }
 {
     let top = Progress {
         at: 0,
@@ -61,15 +56,9 @@ pub fn read_first<T: Tray>(
     let parts = workspace.strip.parts();
     let ahead = &mut workspace.ahead;
     let bytes = &mut workspace.pieces;
-    match read_row(
-        alloc, trays, outline, plan, plates, &top, row, parts, ahead, bytes,
-    ) {
-        Ok(()) => {
-            change_places(alloc, workspace);
-            Ok(())
-        }
-        Err(error) => Err(error),
-    }
+    read_row(trays, sheet, &top, row, parts, ahead, bytes)?;
+    change_places(sheet.alloc, workspace);
+    Ok(())
 }
 
 /// Traps the first strip, which is the current one, and counts its core while the second strip is read, plate k by tray
@@ -79,36 +68,30 @@ pub fn read_first<T: Tray>(
 /// It stops at the first plate that has a fault now or can't be read.
 pub fn trap_first<H: Threads + Sync, T: Tray>(
     rt: &H,
-    alloc: Global,
     trays: &mut [T],
-    outline: &PageParts,
-    plan: &StripPlan,
-    plates: &[OpenPlate],
+    sheet: &OpenSheet<'_>,
     row: &Span,
     next: &Span,
     workspace: &mut StreamWorkspace,
 ) -> Result<(), RereadError>
-    requires can { CanStream outline.now plan.now }
-    requires headers { HaveHeader outline.now plates.now }
-    requires trays { length plates.now ≤ length trays.old }
-    requires row { IsStripRow plan.now.down row.now }
-    requires next { IsNextRow plan.now.down (gone_on row.now) next.now }
-    requires workspace { IsStreamWorkspace outline.now plan.now workspace.old }
-    requires way { IsStored outline.now plan.now plates.now row.now (map T.state trays.old) workspace.old }
-    ensures workspace { OnOk result (IsStreamWorkspace outline.now plan.now workspace.new) }
-    ensures waiting { OnOk result (IsWaiting plan.now row.now workspace.new.ahead workspace.new.core) }
-    ensures goes { GoesFirst outline.now plan.now plates.now row.now next.now (map T.state trays.old)
-        (map T.state trays.new) workspace.old workspace.new result }
+    requires can { CanStream sheet.now.outline.now sheet.now.plan.now }
+    requires headers { HaveHeader sheet.now.outline.now sheet.now.plates.now }
+    requires trays { length sheet.now.plates.now ≤ length trays.old }
+    requires row { IsStripRow sheet.now.plan.now.down row.now }
+    requires next { IsNextRow sheet.now.plan.now.down (gone_on row.now) next.now }
+    requires workspace { IsStreamWorkspace sheet.now.outline.now sheet.now.plan.now workspace.old }
+    requires way { IsStored sheet.now.outline.now sheet.now.plan.now sheet.now.plates.now row.now
+        (map T.state trays.old) workspace.old }
+    ensures workspace { OnOk result
+        (IsStreamWorkspace sheet.now.outline.now sheet.now.plan.now workspace.new) }
+    ensures waiting { OnOk result (IsWaiting sheet.now.plan.now row.now workspace.new.ahead
+        workspace.new.core) }
+    ensures goes { GoesFirst sheet.now.outline.now sheet.now.plan.now sheet.now.plates.now row.now
+        next.now (map T.state trays.old) (map T.state trays.new) workspace.old workspace.new result }
 {
-    match trap_and_read(
-        rt, alloc, trays, outline, plan, plates, row, next, workspace,
-    ) {
-        Ok(()) => {
-            change_places(alloc, workspace);
-            Ok(())
-        }
-        Err(error) => Err(error),
-    }
+    trap_and_read(rt, trays, sheet, row, next, workspace)?;
+    change_places(sheet.alloc, workspace);
+    Ok(())
 }
 
 /// Traps the current strip and counts its core; beside that the core of the strip before is written, plate k by rack k,
@@ -119,42 +102,35 @@ pub fn trap_first<H: Threads + Sync, T: Tray>(
 /// read.
 pub fn stream_strip<H: Threads + Sync, T: Tray, R: Rack>(
     rt: &H,
-    alloc: Global,
     trays: &mut [T],
     racks: &mut [R],
-    outline: &PageParts,
-    plan: &StripPlan,
-    plates: &[OpenPlate],
+    sheet: &OpenSheet<'_>,
     last: &Span,
     row: &Span,
     next: &Span,
     workspace: &mut StreamWorkspace,
 ) -> Result<(), StreamError>
-    requires can { CanStream outline.now plan.now }
-    requires headers { HaveHeader outline.now plates.now }
-    requires trays { length plates.now ≤ length trays.old }
-    requires racks { length plates.now ≤ length racks.old }
-    requires row { IsStripRow plan.now.down row.now }
-    requires next { IsNextRow plan.now.down (gone_on row.now) next.now }
-    requires workspace { IsStreamWorkspace outline.now plan.now workspace.old }
-    requires waiting { IsWaiting plan.now last.now workspace.old.ahead workspace.old.core }
-    requires way { IsAwaiting outline.now plan.now plates.now last.now row.now
-        (map T.state trays.old) (map R.state racks.old) workspace.old }
-    ensures workspace { OnOk result (IsStreamWorkspace outline.now plan.now workspace.new) }
-    ensures waiting { OnOk result (IsWaiting plan.now row.now workspace.new.ahead workspace.new.core) }
-    ensures goes { GoesOn outline.now plan.now plates.now last.now row.now next.now
-        (map T.state trays.old) (map T.state trays.new) (map R.state racks.old)
+    requires can { CanStream sheet.now.outline.now sheet.now.plan.now }
+    requires headers { HaveHeader sheet.now.outline.now sheet.now.plates.now }
+    requires trays { length sheet.now.plates.now ≤ length trays.old }
+    requires racks { length sheet.now.plates.now ≤ length racks.old }
+    requires row { IsStripRow sheet.now.plan.now.down row.now }
+    requires next { IsNextRow sheet.now.plan.now.down (gone_on row.now) next.now }
+    requires workspace { IsStreamWorkspace sheet.now.outline.now sheet.now.plan.now workspace.old }
+    requires waiting { IsWaiting sheet.now.plan.now last.now workspace.old.ahead workspace.old.core }
+    requires way { IsAwaiting sheet.now.outline.now sheet.now.plan.now sheet.now.plates.now last.now
+        row.now (map T.state trays.old) (map R.state racks.old) workspace.old }
+    ensures workspace { OnOk result
+        (IsStreamWorkspace sheet.now.outline.now sheet.now.plan.now workspace.new) }
+    ensures waiting { OnOk result (IsWaiting sheet.now.plan.now row.now workspace.new.ahead
+        workspace.new.core) }
+    ensures goes { GoesOn sheet.now.outline.now sheet.now.plan.now sheet.now.plates.now last.now
+        row.now next.now (map T.state trays.old) (map T.state trays.new) (map R.state racks.old)
         (map R.state racks.new) workspace.old workspace.new result }
 {
-    match trap_beside(
-        rt, alloc, trays, racks, outline, plan, plates, last, row, next, workspace,
-    ) {
-        Ok(()) => {
-            change_places(alloc, workspace);
-            Ok(())
-        }
-        Err(error) => Err(error),
-    }
+    trap_beside(rt, trays, racks, sheet, last, row, next, workspace)?;
+    change_places(sheet.alloc, workspace);
+    Ok(())
 }
 
 /// Traps the last strip, which is the current one, counts its core, and writes the core's rows, plate k by rack k. It

@@ -11,7 +11,7 @@ use crate::parts::{StripPlan, cut_of};
 use common_errors::common::CommonError;
 use outside::rack::Rack;
 use sheet_engine::counts::SheetCounts;
-use sheet_engine::workspace::{StripWorkspace, trap_strip_in};
+use sheet_engine::workspace::{RowPlan, StripWorkspace, trap_strip_in};
 use sheet_geometry::spans::Span;
 use sheet_geometry::window_sheet::Sheet;
 use std::thread::Threads;
@@ -40,17 +40,13 @@ pub fn trap_row<H: Threads + Sync>(
 {
     let _valid = strip.width();
     let cut = cut_of(plan, row);
-    trap_strip_in(
-        rt,
-        strip,
-        &cut.across,
-        &cut.down,
-        &cut.row,
-        cut.row.skip,
-        plan.workers,
-        windows,
-        counts,
-    );
+    let cores = RowPlan {
+        across: cut.across,
+        down: cut.down,
+        row: cut.row,
+        at: cut.row.skip,
+    };
+    trap_strip_in(rt, strip, &cores, plan.workers, windows, counts);
 }
 
 /// Writes the rows of the core of the strip of these rows, which was trapped last, some rows of all plates at once,

@@ -12,16 +12,13 @@ ghost use Rattle.sheet_engine.specs.Works.{AreNone};
 
 use crate::beside::write_waiting;
 use crate::error::StreamError;
-use crate::parts::StripPlan;
+use crate::parts::OpenSheet;
 use crate::rows::{Progress, next_row, progress_after};
 use crate::step::{put_last, read_first, stream_strip, trap_first};
 use crate::workspace::StreamWorkspace;
 use outside::rack::Rack;
 use outside::tray::Tray;
-use page_model::parts::PageParts;
-use pgm_plates::rows::OpenPlate;
 use sheet_geometry::spans::Span;
-use std::alloc::Global;
 use std::thread::Threads;
 
 /// Streams a sheet whose plates and files are begun: strip after strip, from the top, its rows are read, it is trapped
@@ -34,36 +31,31 @@ use std::thread::Threads;
 /// has some of its first rows.
 pub fn stream_strips<H: Threads + Sync, T: Tray, R: Rack>(
     rt: &H,
-    alloc: Global,
     trays: &mut [T],
     racks: &mut [R],
-    outline: &PageParts,
-    plan: &StripPlan,
-    plates: &[OpenPlate],
+    sheet: &OpenSheet<'_>,
     workspace: &mut StreamWorkspace,
 ) -> Result<(), StreamError>
-    requires can { CanStream outline.now plan.now }
-    requires headers { HaveHeader outline.now plates.now }
-    requires trays { length plates.now ≤ length trays.old }
-    requires racks { length plates.now ≤ length racks.old }
-    requires workspace { IsStreamWorkspace outline.now plan.now workspace.old }
-    requires counts { AreNone outline.now workspace.old.counts }
-    requires started { IsStarted outline.now plan.now plates.now (map T.state trays.old)
-        (map R.state racks.old) }
-    ensures { Streams outline.now plan.now plates.now workspace.old.counts workspace.new.counts
-        (map T.state trays.old) (map T.state trays.new) (map R.state racks.old)
-        (map R.state racks.new) result }
+    requires can { CanStream sheet.now.outline.now sheet.now.plan.now }
+    requires headers { HaveHeader sheet.now.outline.now sheet.now.plates.now }
+    requires trays { length sheet.now.plates.now ≤ length trays.old }
+    requires racks { length sheet.now.plates.now ≤ length racks.old }
+    requires workspace { IsStreamWorkspace sheet.now.outline.now sheet.now.plan.now workspace.old }
+    requires counts { AreNone sheet.now.outline.now workspace.old.counts }
+    requires started { IsStarted sheet.now.outline.now sheet.now.plan.now sheet.now.plates.now
+        (map T.state trays.old) (map R.state racks.old) }
+    ensures { Streams sheet.now.outline.now sheet.now.plan.now sheet.now.plates.now
+        workspace.old.counts workspace.new.counts (map T.state trays.old) (map T.state trays.new)
+        (map R.state racks.old) (map R.state racks.new) result }
 {
     let top = Progress {
         at: 0,
         from: 0,
         read: 0,
     };
-    let first = next_row(&plan.down, top);
-    match read_first(alloc, trays, outline, plan, plates, &first, workspace) {
-        Ok(()) => stream_on(
-            rt, alloc, trays, racks, outline, plan, plates, &first, workspace,
-        ),
+    let first = next_row(&sheet.plan.down, top);
+    match read_first(trays, sheet, &first, workspace) {
+        Ok(()) => stream_on(rt, trays, racks, sheet, &first, workspace),
         Err(error) => Err(StreamError::Unread(error)),
     }
 }
@@ -71,35 +63,28 @@ pub fn stream_strips<H: Threads + Sync, T: Tray, R: Rack>(
 // Does the same with the first strip read.
 fn stream_on<H: Threads + Sync, T: Tray, R: Rack>(
     rt: &H,
-    alloc: Global,
     trays: &mut [T],
     racks: &mut [R],
-    outline: &PageParts,
-    plan: &StripPlan,
-    plates: &[OpenPlate],
+    sheet: &OpenSheet<'_>,
     first: &Span,
     workspace: &mut StreamWorkspace,
 ) -> Result<(), StreamError>
-    requires can { CanStream outline.now plan.now }
-    requires headers { HaveHeader outline.now plates.now }
-    requires trays { length plates.now ≤ length trays.old }
-    requires racks { length plates.now ≤ length racks.old }
-    requires first { IsStripRow plan.now.down first.now }
-    requires workspace { IsStreamWorkspace outline.now plan.now workspace.old }
-    requires way { IsUnderWay outline.now plan.now plates.now first.now (map T.state trays.old)
-        (map R.state racks.old) workspace.old }
-    ensures { Finishes outline.now plan.now plates.now first.now (map T.state trays.old)
-        (map T.state trays.new) (map R.state racks.old) (map R.state racks.new) workspace.old workspace.new
-        result }
+    requires can { CanStream sheet.now.outline.now sheet.now.plan.now }
+    requires headers { HaveHeader sheet.now.outline.now sheet.now.plates.now }
+    requires trays { length sheet.now.plates.now ≤ length trays.old }
+    requires racks { length sheet.now.plates.now ≤ length racks.old }
+    requires first { IsStripRow sheet.now.plan.now.down first.now }
+    requires workspace { IsStreamWorkspace sheet.now.outline.now sheet.now.plan.now workspace.old }
+    requires way { IsUnderWay sheet.now.outline.now sheet.now.plan.now sheet.now.plates.now
+        first.now (map T.state trays.old) (map R.state racks.old) workspace.old }
+    ensures { Finishes sheet.now.outline.now sheet.now.plan.now sheet.now.plates.now first.now
+        (map T.state trays.old) (map T.state trays.new) (map R.state racks.old)
+        (map R.state racks.new) workspace.old workspace.new result }
 {
-    match reach_last(
-        rt, alloc, trays, racks, outline, plan, plates, first, workspace,
-    ) {
-        Ok(row) => match put_last(rt, racks, plan, &row, workspace) {
-            Ok(()) => Ok(()),
-            Err(common_error) => Err(StreamError::Unwritten(common_error)),
-        },
-        Err(error) => Err(error),
+    let row = reach_last(rt, trays, racks, sheet, first, workspace)?;
+    match put_last(rt, racks, sheet.plan, &row, workspace) {
+        Ok(()) => Ok(()),
+        Err(common_error) => Err(StreamError::Unwritten(common_error)),
     }
 }
 
@@ -107,40 +92,34 @@ fn stream_on<H: Threads + Sync, T: Tray, R: Rack>(
 // returned.
 fn reach_last<H: Threads + Sync, T: Tray, R: Rack>(
     rt: &H,
-    alloc: Global,
     trays: &mut [T],
     racks: &mut [R],
-    outline: &PageParts,
-    plan: &StripPlan,
-    plates: &[OpenPlate],
+    sheet: &OpenSheet<'_>,
     first: &Span,
     workspace: &mut StreamWorkspace,
 ) -> Result<Span, StreamError>
-    requires can { CanStream outline.now plan.now }
-    requires headers { HaveHeader outline.now plates.now }
-    requires trays { length plates.now ≤ length trays.old }
-    requires racks { length plates.now ≤ length racks.old }
-    requires first { IsStripRow plan.now.down first.now }
-    requires workspace { IsStreamWorkspace outline.now plan.now workspace.old }
-    requires way { IsUnderWay outline.now plan.now plates.now first.now (map T.state trays.old)
-        (map R.state racks.old) workspace.old }
-    ensures last { IfOk result (IsLastRow plan.now) }
-    ensures workspace { OnOk result (IsStreamWorkspace outline.now plan.now workspace.new) }
-    ensures reaches { ReachesLast outline.now plan.now plates.now first.now (map T.state trays.old)
-        (map T.state trays.new) (map R.state racks.old) (map R.state racks.new) workspace.old workspace.new
-        result }
+    requires can { CanStream sheet.now.outline.now sheet.now.plan.now }
+    requires headers { HaveHeader sheet.now.outline.now sheet.now.plates.now }
+    requires trays { length sheet.now.plates.now ≤ length trays.old }
+    requires racks { length sheet.now.plates.now ≤ length racks.old }
+    requires first { IsStripRow sheet.now.plan.now.down first.now }
+    requires workspace { IsStreamWorkspace sheet.now.outline.now sheet.now.plan.now workspace.old }
+    requires way { IsUnderWay sheet.now.outline.now sheet.now.plan.now sheet.now.plates.now
+        first.now (map T.state trays.old) (map R.state racks.old) workspace.old }
+    ensures last { IfOk result (IsLastRow sheet.now.plan.now) }
+    ensures workspace { OnOk result
+        (IsStreamWorkspace sheet.now.outline.now sheet.now.plan.now workspace.new) }
+    ensures reaches { ReachesLast sheet.now.outline.now sheet.now.plan.now sheet.now.plates.now
+        first.now (map T.state trays.old) (map T.state trays.new) (map R.state racks.old)
+        (map R.state racks.new) workspace.old workspace.new result }
 {
-    let progress = progress_after(&plan.down, first);
-    if progress.at >= plan.down.side {
+    let progress = progress_after(&sheet.plan.down, first);
+    if progress.at >= sheet.plan.down.side {
         return Ok(*first);
     }
-    let second = next_row(&plan.down, progress);
-    match trap_first(
-        rt, alloc, trays, outline, plan, plates, first, &second, workspace,
-    ) {
-        Ok(()) => go_on(
-            rt, alloc, trays, racks, outline, plan, plates, first, &second, workspace,
-        ),
+    let second = next_row(&sheet.plan.down, progress);
+    match trap_first(rt, trays, sheet, first, &second, workspace) {
+        Ok(()) => go_on(rt, trays, racks, sheet, first, &second, workspace),
         Err(error) => Err(StreamError::Unread(error)),
     }
 }
@@ -148,51 +127,43 @@ fn reach_last<H: Threads + Sync, T: Tray, R: Rack>(
 // Does the same with the second strip read, and the core of the first still to be written.
 fn go_on<H: Threads + Sync, T: Tray, R: Rack>(
     rt: &H,
-    alloc: Global,
     trays: &mut [T],
     racks: &mut [R],
-    outline: &PageParts,
-    plan: &StripPlan,
-    plates: &[OpenPlate],
+    sheet: &OpenSheet<'_>,
     first: &Span,
     second: &Span,
     workspace: &mut StreamWorkspace,
 ) -> Result<Span, StreamError>
-    requires can { CanStream outline.now plan.now }
-    requires headers { HaveHeader outline.now plates.now }
-    requires trays { length plates.now ≤ length trays.old }
-    requires racks { length plates.now ≤ length racks.old }
-    requires second { IsStripRow plan.now.down second.now }
-    requires workspace { IsStreamWorkspace outline.now plan.now workspace.old }
-    requires waiting { IsWaiting plan.now first.now workspace.old.ahead workspace.old.core }
-    requires way { IsAwaiting outline.now plan.now plates.now first.now second.now
-        (map T.state trays.old) (map R.state racks.old) workspace.old }
-    ensures last { IfOk result (IsLastRow plan.now) }
-    ensures workspace { OnOk result (IsStreamWorkspace outline.now plan.now workspace.new) }
-    ensures reaches { Reaches outline.now plan.now plates.now first.now second.now
-        (map T.state trays.old) (map T.state trays.new) (map R.state racks.old)
+    requires can { CanStream sheet.now.outline.now sheet.now.plan.now }
+    requires headers { HaveHeader sheet.now.outline.now sheet.now.plates.now }
+    requires trays { length sheet.now.plates.now ≤ length trays.old }
+    requires racks { length sheet.now.plates.now ≤ length racks.old }
+    requires second { IsStripRow sheet.now.plan.now.down second.now }
+    requires workspace { IsStreamWorkspace sheet.now.outline.now sheet.now.plan.now workspace.old }
+    requires waiting { IsWaiting sheet.now.plan.now first.now workspace.old.ahead workspace.old.core }
+    requires way { IsAwaiting sheet.now.outline.now sheet.now.plan.now sheet.now.plates.now
+        first.now second.now (map T.state trays.old) (map R.state racks.old) workspace.old }
+    ensures last { IfOk result (IsLastRow sheet.now.plan.now) }
+    ensures workspace { OnOk result
+        (IsStreamWorkspace sheet.now.outline.now sheet.now.plan.now workspace.new) }
+    ensures reaches { Reaches sheet.now.outline.now sheet.now.plan.now sheet.now.plates.now
+        first.now second.now (map T.state trays.old) (map T.state trays.new) (map R.state racks.old)
         (map R.state racks.new) workspace.old workspace.new result }
 {
     let mut last = *first;
     let mut row = *second;
-    let mut progress = progress_after(&plan.down, &row);
-    while progress.at < plan.down.side {
-        let next = next_row(&plan.down, progress);
-        match stream_strip(
-            rt, alloc, trays, racks, outline, plan, plates, &last, &row, &next, workspace,
-        ) {
-            Ok(()) => {
-                last = row;
-                row = next;
-                progress = progress_after(&plan.down, &row);
-            }
-            Err(error) => return Err(error),
-        }
+    let mut progress = progress_after(&sheet.plan.down, &row);
+    while progress.at < sheet.plan.down.side {
+        let next = next_row(&sheet.plan.down, progress);
+        stream_strip(rt, trays, racks, sheet, &last, &row, &next, workspace)?;
+        last = row;
+        row = next;
+        progress = progress_after(&sheet.plan.down, &row);
     }
     match write_waiting(
-        alloc,
+        sheet.alloc,
         racks,
-        plan,
+        sheet.plan,
         &last,
         &mut workspace.ahead,
         &mut workspace.core,

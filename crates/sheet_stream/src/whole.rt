@@ -64,10 +64,8 @@ pub fn hold_sheet<T: Tray, S: AsStr>(
     let none = OpenPlate { header, size: 0 };
     let mut plates = [none; MOST_PLATES];
     let headers = [header; MOST_PLATES];
-    match begin_plates(trays, inputs, &headers, &mut plates) {
-        Ok(()) => hold_begun(alloc, trays, outline, &plates[..inputs.len()], sheet, bytes),
-        Err(error) => Err(error),
-    }
+    begin_plates(trays, inputs, &headers, &mut plates)?;
+    hold_begun(alloc, trays, outline, &plates[..inputs.len()], sheet, bytes)
 }
 
 // Does the same with the plates begun.
@@ -88,8 +86,6 @@ fn hold_begun<T: Tray>(
     ensures { EndsStored outline.now plates.now sheet.new (map T.state trays.old)
         (map T.state trays.new) result }
 {
-    match read_strip(alloc, trays, plates, sheet, bytes) {
-        Ok(()) => end_plates(trays, plates),
-        Err(error) => Err(error),
-    }
+    read_strip(alloc, trays, plates, sheet, bytes)?;
+    end_plates(trays, plates)
 }

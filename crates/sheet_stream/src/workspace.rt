@@ -157,10 +157,8 @@ fn second_workspace(
     ensures line { IfOk result (λ core. plates outline.now * width outline.now ≤ length core.line.items) }
     ensures bytes { IfOk result (λ core. 2 ≤ length core.bytes.items) }
 {
-    match windows_of(alloc, plan, row, columns, strip) {
-        Ok(windows) => core_workspace(alloc, outline, windows),
-        Err(OutOfMemory) => Err(OutOfMemory),
-    }
+    let windows = windows_of(alloc, plan, row, columns, strip)?;
+    core_workspace(alloc, outline, windows)
 }
 
 // Allocates the buffers for the windows of a strip of these rows.

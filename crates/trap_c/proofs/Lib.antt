@@ -10,3 +10,4 @@ mod CoreCounts
 mod WorkLemmas
 mod SheetLemmas
 mod AnswerLemmas
+mod OpenLemmas

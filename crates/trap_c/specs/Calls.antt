@@ -61,7 +61,7 @@ Succeeds most asked before after text text' len =
     × KeepsGaps asked.layout before after
     × Tells (report_of page (page_counts page)) text text' len
 
--- A call that is refused: all samples stay, the status and the line are those of the stop that
+-- A call that is refused: all samples stay, the status and the line are those of the error that
 -- the arguments call for, or of memory that was refused.
 abbrev pub Refuses : ℕ → Asked → List ℕ → List ℕ → List ℕ → List ℕ → ℕ → ℕ → Type 0
 Refuses most asked before after text text' len status =

@@ -16,7 +16,7 @@ use Rattle.trap_c.specs.declared.layout.Layout.{Layout}
 abbrev pub sum_over : Cut → (At → ℕ) → ℕ
 sum_over core f = area_sum f core.left core.top core.width core.height
 
--- what a report tells of a core
+-- what a report says of a core
 abbrev pub core_counts : PageParts → Cut → Counts
 core_counts page core = record {
   zone_samples = list_below (λ z. sum_over core (lies_in z page)) (length page.zones);

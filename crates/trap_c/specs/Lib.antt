@@ -12,3 +12,4 @@ pub mod Windows
 pub mod Cores
 pub mod Calls
 pub mod WindowCalls
+pub mod Opened

@@ -53,10 +53,10 @@ down_of layout place = record {
   core = place.core_height;
 }
 
--- the window lies on a sheet, and its core in the window
+-- the window lies on a sheet, and its core, which is not empty, in the window
 abbrev pub lies_along : Along → Bool
 lies_along along = nat_le along.side most_sheet_side && nat_le (along.from + along.wide) along.side
-    && nat_le (along.core_from + along.core) along.wide
+    && nat_le 1 along.core && nat_le (along.core_from + along.core) along.wide
 
 abbrev pub is_place : Layout → Place → Bool
 is_place layout place =
@@ -103,11 +103,13 @@ abbrev pub suits : Job → Layout → Place → Bool
 suits job layout place = is_wide (job_halo job) layout place
     && (nat_le (length job.zones) 1 || is_at_step job.resolution layout place)
 
--- The window lies on a sheet, and its core in the window.
+-- The window lies on a sheet, and its core, which is not empty, in the window.
 pub record IsPlaced (layout : Layout) (place : Place) : Type 0 where
   pub narrow : place.sheet_width ≤ most_sheet_side
   pub low : place.sheet_height ≤ most_sheet_side
   pub across : place.left + layout.width ≤ place.sheet_width
   pub down : place.top + layout.height ≤ place.sheet_height
+  pub core_wide : 1 ≤ place.core_width
+  pub core_tall : 1 ≤ place.core_height
   pub core_across : place.core_left + place.core_width ≤ layout.width
   pub core_down : place.core_top + place.core_height ≤ layout.height

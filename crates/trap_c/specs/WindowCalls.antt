@@ -1,4 +1,4 @@
--- What a window's call does, and what the call does that tells the halo.
+-- What a window's call does, and what the call for the halo does.
 use Rattle.std.specs.Prelude.{◌≡◌, ◌≢◌, ◌⊎◌, ℕ, ◌+◌, ◌<◌, List, [], Result, Ok, Err, length, map}
 use Rattle.std.specs.Prelude.{slice_index}
 use Rattle.job_reader.specs.declared.job.Job.{Job}
@@ -50,7 +50,7 @@ WorksWindow most layout place before made (Ok work) =
     × AreSides layout
 WorksWindow most layout place before made (Err error) = (error ≡ Page Memory) ⊎ (made ≡ Err error)
 
--- A sheet of a job, with the sides that the place tells, that shows these samples in the window.
+-- A sheet of a job, with the sides that the place gives, that shows these samples in the window.
 pub record IsSheetOf (job : Job) (asked : Asked) (place : Place) (samples : List ℕ)
     (sheet : PageParts) : Type 0 where
   pub ranges : IsSheet sheet
@@ -110,7 +110,7 @@ abbrev pub SucceedsWindow : ℕ → Asked → Place → List ℕ → List ℕ �
 SucceedsWindow most asked place before after text text' len =
     (page : PageParts) × HasTrapped most asked place before after text text' len page
 
--- A window's call that is refused: all samples stay, the status and the line are those of the stop
+-- A window's call that is refused: all samples stay, the status and the line are those of the error
 -- that the arguments call for, or of memory that was refused.
 abbrev pub RefusesWindow : ℕ → Asked → Place → List ℕ → List ℕ → List ℕ → List ℕ → ℕ → ℕ → Type 0
 RefusesWindow most asked place before after text text' len status =
@@ -141,7 +141,7 @@ HaloRefused bytes status error =
     (status ≡ status_of_error error) × ((error ≡ Page Memory)
     ⊎ ((fault : JobFault) × (job_of bytes ≡ Err fault) × (error ≡ Page (JobFaulty fault))))
 
--- What the call does that tells the halo.
+-- What the call for the halo does.
 pub record TellsHalo (bytes : List ℕ) (halo halo' : ℕ) (text text' : List ℕ) (len status : ℕ)
     : Type 0 where
   pub success : status ≡ done → HaloIs bytes halo' × Tells [] text text' len

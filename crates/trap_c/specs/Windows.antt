@@ -92,6 +92,11 @@ abbrev pub GivesWindow : Result PageParts CallError → Result PageParts CallErr
 GivesWindow made (Ok page) = made ≡ Ok page
 GivesWindow made (Err error) = (error ≡ Page Memory) ⊎ (made ≡ Err error)
 
+-- The job that these bytes are read as.
+pub record IsRead (bytes : List ℕ) (job : Job) : Type 0 where
+  pub is : job_of bytes ≡ Ok job
+  pub range : IsJob job
+
 -- A job in range, but for how far its vertices are from the origin.
 pub record IsMovedJob (job : Job) : Type 0 where
   pub few_zones : length job.zones ≤ 251

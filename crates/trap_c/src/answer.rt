@@ -1,13 +1,14 @@
-ghost use Rattle.std.specs.Prelude.{◌≡◌, ◌≢◌};
+ghost use Rattle.std.specs.Prelude.{◌≡◌, ◌≢◌, MatchOption};
 ghost use Rattle.common_errors.specs.Statuses.{done as done_status};
 ghost use Rattle.trap_c.specs.Calls.{Tells, Traps};
 ghost use Rattle.trap_c.specs.Requests.{asked};
 ghost use Rattle.trap_c.specs.WindowCalls.{TellsHalo, TrapsWindow, error_of_job};
+ghost use Rattle.trap_c.specs.Windows.{IsRead};
 ghost use Rattle.trap_c.specs.Errors.{line_of_error, status_of_error};
 ghost use Rattle.page_model.specs.Limits.{most_maxval};
 
 use crate::cores::{put_byte_cores, put_word_cores};
-use crate::error::{CallError, line_of, status_of};
+use crate::error::CallError;
 use crate::halo::halo_of;
 use crate::place::{Place, core_of};
 use crate::planes::{put_bytes, put_words};
@@ -16,6 +17,7 @@ use crate::source::Source;
 use crate::work::{carry_out, carry_out_window};
 use common_errors::common::CommonError;
 use common_errors::statuses::DONE;
+use job_reader::job::Job;
 use job_reader::reader::read_job;
 use page_model::bounds::MOST_MAXVAL;
 use ps_tokens::faults::JobError;
@@ -66,21 +68,30 @@ pub fn answer_bytes(
 }
 
 /// Carries out a window's call over samples of two bytes, writes the core's part of the report or the line of the
-/// error to the text, and returns the status.
+/// error to the text, and returns the status. `known` is the job that was read of the request's bytes, if it was.
 pub fn answer_window_words(
     alloc: Global,
     request: &Request<'_>,
+    known: Option<&Job>,
     place: &Place,
     samples: &mut [u16],
     text: &mut [u8],
     text_len: &mut usize,
 ) -> u8
+    requires { MatchOption known (Unit {0}) (λ job. IsRead request.now.job.now job.now) }
     ensures { TrapsWindow most_maxval (asked request.now) place.now samples.old samples.new text.old
         text.new text_len.new result }
 {
     window_law();
     tile_law();
-    match carry_out_window(alloc, MOST_MAXVAL, request, place, &Source::Words(samples)) {
+    match carry_out_window(
+        alloc,
+        MOST_MAXVAL,
+        request,
+        known,
+        place,
+        &Source::Words(samples),
+    ) {
         Ok(done) => {
             put_word_cores(&done.planes, request.layout, &core_of(place), samples);
             put_text(done.report.as_slice(), text, text_len);
@@ -94,17 +105,19 @@ pub fn answer_window_words(
 pub fn answer_window_bytes(
     alloc: Global,
     request: &Request<'_>,
+    known: Option<&Job>,
     place: &Place,
     samples: &mut [u8],
     text: &mut [u8],
     text_len: &mut usize,
 ) -> u8
+    requires { MatchOption known (Unit {0}) (λ job. IsRead request.now.job.now job.now) }
     ensures { TrapsWindow 255 (asked request.now) place.now samples.old samples.new text.old
         text.new text_len.new result }
 {
     window_law();
     tile_law();
-    match carry_out_window(alloc, 255, request, place, &Source::Bytes(samples)) {
+    match carry_out_window(alloc, 255, request, known, place, &Source::Bytes(samples)) {
         Ok(done) => {
             put_byte_cores(&done.planes, request.layout, &core_of(place), samples);
             put_text(done.report.as_slice(), text, text_len);
@@ -134,7 +147,8 @@ pub fn answer_halo(
     }
 }
 
-fn error_of(common_error: JobError) -> CallError
+/// Why a job that is refused stops a call.
+pub fn error_of(common_error: JobError) -> CallError
     ensures { result ≡ error_of_job common_error }
 {
     match common_error {
@@ -143,16 +157,18 @@ fn error_of(common_error: JobError) -> CallError
     }
 }
 
-fn refuse(error: &CallError, text: &mut [u8], text_len: &mut usize) -> u8
+/// Writes the line of an error to the text, and returns its status.
+pub fn refuse(error: &CallError, text: &mut [u8], text_len: &mut usize) -> u8
     ensures text { Tells (line_of_error error.now) text.old text.new text_len.new }
     ensures status { result ≡ status_of_error error.now }
     ensures refused { result ≢ done_status }
 {
-    put_text(line_of(error).as_slice(), text, text_len);
-    status_of(error)
+    put_text(error.line().as_slice(), text, text_len);
+    error.exit_status()
 }
 
-fn put_text(bytes: &[u8], text: &mut [u8], text_len: &mut usize)
+/// Writes as much of a text as fits to the start of a buffer.
+pub fn put_text(bytes: &[u8], text: &mut [u8], text_len: &mut usize)
     ensures { Tells bytes.now text.old text.new text_len.new }
 {
     let count = bytes.len().min(text.len());

@@ -1,8 +1,7 @@
 ghost use Rattle.std.specs.Prelude.{◌≡◌, ◌≤◌, length};
 ghost use Rattle.trap_c.specs.Errors.{status_of_error, line_of_error, line_of_call};
 
-use common_errors::common::{CommonError, status};
-use common_errors::fault_line::fault_line;
+use common_errors::common::CommonError;
 use common_errors::line::Line;
 use common_errors::statuses::{PAGE_REFUSED, USAGE};
 
@@ -19,9 +18,11 @@ pub enum CallFault {
     Maxval,
     /// The number of samples is not what the names, the height and the step give.
     Samples,
-    /// The window is not within the sheet, or its core not within the window; the halo is too small for the job; or the
+    /// The window is not within the sheet, or its core empty or not within the window; the halo is too small; or the
     /// job has zones and the window's corner is not at a multiple of the step.
     Place,
+    /// The handle is open, where a job is to be opened; or not open, where one is needed.
+    Handle,
 }
 
 /// Why a call leaves the planes unchanged.
@@ -35,25 +36,27 @@ pub enum CallError {
     Far(u32),
 }
 
-/// The status that a call returns for a stop.
-pub fn status_of(error: &CallError) -> u8
-    ensures { result ≡ status_of_error error.now }
-{
-    match error {
-        CallError::Call(_) => USAGE,
-        CallError::Page(common_error) => status(common_error),
-        CallError::Far(_) => PAGE_REFUSED,
+impl CallError {
+    /// The status that a call returns for this error.
+    pub fn exit_status(&self) -> u8
+        ensures { result ≡ status_of_error self.now }
+    {
+        match self {
+            CallError::Call(_) => USAGE,
+            CallError::Page(common_error) => common_error.exit_status(),
+            CallError::Far(_) => PAGE_REFUSED,
+        }
     }
-}
 
-/// The line that a call writes to the text for a stop.
-pub fn line_of(error: &CallError) -> Line
-    ensures { result ≡ line_of_error error.now }
-{
-    match error {
-        CallError::Call(fault) => call_line(*fault),
-        CallError::Page(common_error) => fault_line(common_error),
-        CallError::Far(zone) => Line::of_number(b"sheet: Far in zone ", *zone),
+    /// The line that a call writes to the text for this error.
+    pub fn line(&self) -> Line
+        ensures { result ≡ line_of_error self.now }
+    {
+        match self {
+            CallError::Call(fault) => call_line(*fault),
+            CallError::Page(common_error) => common_error.line(),
+            CallError::Far(zone) => Line::of_number(b"sheet: Far in zone ", *zone),
+        }
     }
 }
 
@@ -67,5 +70,6 @@ fn call_line(fault: CallFault) -> Line
         CallFault::Maxval => Line::of_text(b"call: Maxval"),
         CallFault::Samples => Line::of_text(b"call: Samples"),
         CallFault::Place => Line::of_text(b"call: Place"),
+        CallFault::Handle => Line::of_text(b"call: Handle"),
     }
 }

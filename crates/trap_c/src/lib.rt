@@ -9,6 +9,7 @@ mod fit;
 mod halo;
 mod layout;
 mod names;
+mod opened;
 mod page;
 mod place;
 mod planes;
@@ -19,8 +20,10 @@ mod tally;
 mod window;
 mod work;
 
-ghost use Rattle.std.specs.Prelude.{◌≡◌};
+ghost use Rattle.std.specs.Prelude.{◌≡◌, None};
+ghost use Rattle.job_handles.specs.Opened.{opened};
 ghost use Rattle.trap_c.specs.Calls.{Traps};
+ghost use Rattle.trap_c.specs.Opened.{OpensJob, TellsOpenHalo, TrapsOpened};
 ghost use Rattle.trap_c.specs.Requests.{asked_by};
 ghost use Rattle.trap_c.specs.WindowCalls.{TellsHalo, TrapsWindow};
 ghost use Rattle.page_model.specs.Limits.{most_maxval};
@@ -29,8 +32,10 @@ use crate::answer::{
     answer_bytes, answer_halo, answer_window_bytes, answer_window_words, answer_words,
 };
 use crate::layout::Layout;
+use crate::opened::{answer_open, answer_open_bytes, answer_open_halo, answer_open_words, close};
 use crate::place::Place;
 use crate::request::Request;
+use job_handles::job_handle::JobHandle;
 use std::alloc::Global;
 
 /// Traps the planes of a page in place; they follow one another, each row by row from the top: a tint of 0 is no ink,
@@ -142,7 +147,7 @@ pub extern "C" fn trap_window16(
         maxval,
     };
     let request = Request { job, names, layout };
-    answer_window_words(alloc, &request, place, samples, text, text_len)
+    answer_window_words(alloc, &request, None, place, samples, text, text_len)
 }
 
 /// Does what `trap_window16` does, for samples of one byte: the maxval is at most 255.
@@ -170,7 +175,101 @@ pub extern "C" fn trap_window8(
         maxval,
     };
     let request = Request { job, names, layout };
-    answer_window_bytes(alloc, &request, place, samples, text, text_len)
+    answer_window_bytes(alloc, &request, None, place, samples, text, text_len)
+}
+
+/// Opens a job: it is read once, for all calls that are given the handle. The handle is all 0 at first, and otherwise as the
+/// library left it; one thread at a time uses it. The text is empty, or the line of the error. The status is 0, or that
+/// of the error, and an error leaves the handle unchanged: 2 for a handle that is open, 3 for a fault of the job, and 7
+/// if there is too little memory.
+#[unsafe(no_mangle)]
+pub extern "C" fn trap_open(
+    alloc: Global,
+    job: &[u8],
+    handle: &mut JobHandle,
+    text: &mut [u8],
+    text_len: &mut usize,
+) -> u8
+    ensures { OpensJob job.now (opened handle.old) (opened handle.new) text.old text.new
+        text_len.new result }
+{
+    answer_open(alloc, job, handle, text, text_len)
+}
+
+/// Closes a handle and frees its memory. One that is not open is left as it is.
+#[unsafe(no_mangle)]
+pub extern "C" fn trap_close(alloc: Global, handle: &mut JobHandle)
+    ensures { opened handle.new ≡ None }
+{
+    close(alloc, handle)
+}
+
+/// Writes the halo of an open job to `halo`. The status is 0; or 2 for a handle that is not open, and `halo` is unchanged.
+#[unsafe(no_mangle)]
+pub extern "C" fn trap_open_halo(alloc: Global, handle: &mut JobHandle, halo: &mut u32) -> u8
+    ensures kept { opened handle.new ≡ opened handle.old }
+    ensures halo { TellsOpenHalo (opened handle.old) halo.old halo.new result }
+{
+    answer_open_halo(alloc, handle, halo)
+}
+
+/// Does what `trap_window16` does with the job's bytes, whatever was done with the handle before. The status and the line are
+/// those of `trap_window16`, without those of the job, and before all others 2 for a handle that is not open.
+#[unsafe(no_mangle)]
+pub extern "C" fn trap_open_window16(
+    alloc: Global,
+    handle: &mut JobHandle,
+    names: &[u8],
+    samples: &mut [u16],
+    width: u32,
+    height: u32,
+    step: u32,
+    maxval: u32,
+    place: &Place,
+    text: &mut [u8],
+    text_len: &mut usize,
+) -> u8
+    ensures kept { opened handle.new ≡ opened handle.old }
+    ensures traps { TrapsOpened most_maxval (opened handle.old) names.now
+        (record { width = width; height = height; step = step; maxval = maxval }) place.now
+        samples.old samples.new text.old text.new text_len.new result }
+{
+    let layout = Layout {
+        width,
+        height,
+        step,
+        maxval,
+    };
+    answer_open_words(alloc, handle, names, layout, place, samples, text, text_len)
+}
+
+/// Does what `trap_open_window16` does, for samples of one byte: the maxval is at most 255.
+#[unsafe(no_mangle)]
+pub extern "C" fn trap_open_window8(
+    alloc: Global,
+    handle: &mut JobHandle,
+    names: &[u8],
+    samples: &mut [u8],
+    width: u32,
+    height: u32,
+    step: u32,
+    maxval: u32,
+    place: &Place,
+    text: &mut [u8],
+    text_len: &mut usize,
+) -> u8
+    ensures kept { opened handle.new ≡ opened handle.old }
+    ensures traps { TrapsOpened 255 (opened handle.old) names.now
+        (record { width = width; height = height; step = step; maxval = maxval }) place.now
+        samples.old samples.new text.old text.new text_len.new result }
+{
+    let layout = Layout {
+        width,
+        height,
+        step,
+        maxval,
+    };
+    answer_open_bytes(alloc, handle, names, layout, place, samples, text, text_len)
 }
 
 /// The library's version as one number: 10,000 times the first part, plus 100 times the second, plus the third.

@@ -79,10 +79,11 @@ fn lies(along: &Along) -> bool
 {
     along.side <= MOST_SHEET_SIDE
         && sum(along.from, along.wide) <= u64::from(along.side)
+        && 1 <= along.core
         && sum(along.core_from, along.core) <= u64::from(along.wide)
 }
 
-/// Whether the window is within a sheet, and its core within the window.
+/// Whether the window is within a sheet, and its core, which is not empty, within the window.
 pub fn is_place(layout: Layout, place: &Place) -> bool
     ensures value { result ≡ place_spec layout place.now }
     ensures placed { IsTrue result → IsPlaced layout place.now }

@@ -11,7 +11,7 @@ use crate::place::{Place, is_wide, rows_after};
 use job_reader::job::Job;
 use page_model::bounds::MOST_COORDINATE;
 use page_model::parts::{OutOfMemory, Vertex, Zone, ZoneList};
-use sheet_geometry::copies::zones_of;
+use sheet_geometry::copies::{inks_of, zones_of};
 use sheet_geometry::corners::points;
 use std::alloc::Global;
 
@@ -41,28 +41,26 @@ fn is_exact(resolution: u32, samples: u32) -> bool
     720_000 * u64::from(samples) % u64::from(resolution) == 0
 }
 
-/// The job with its paths as seen from the window's lower left corner.
-pub fn moved_job(alloc: Global, job: Job, layout: Layout, place: &Place) -> Result<Job, OutOfMemory>
-    requires job { IsJob job }
+/// A copy of the job, with its paths as seen from the window's lower left corner.
+pub fn moved_job(
+    alloc: Global,
+    job: &Job,
+    layout: Layout,
+    place: &Place,
+) -> Result<Job, OutOfMemory>
+    requires job { IsJob job.now }
     requires placed { IsPlaced layout place.now }
-    ensures { IfOk result (λ moved. moved ≡ job_spec layout place.now job) }
+    ensures { IfOk result (λ moved. moved ≡ job_spec layout place.now job.now) }
 {
     let right = points(job.resolution, place.left);
     let up = points(job.resolution, rows_after(layout, place));
-    match zones_of(alloc, job.zones.as_slice(), right, up) {
-        Ok(zones) => Ok(with_zones(job, zones)),
-        Err(OutOfMemory) => Err(OutOfMemory),
-    }
-}
-
-fn with_zones(job: Job, zones: ZoneList) -> Job
-    ensures { result ≡ record job { zones = zones } }
-{
-    Job {
+    let zones = zones_of(alloc, job.zones.as_slice(), right, up)?;
+    let details = inks_of(alloc, job.details.as_slice())?;
+    Ok(Job {
         resolution: job.resolution,
         zones,
-        details: job.details,
-    }
+        details,
+    })
 }
 
 /// The first zone with a vertex too far from the origin for a page.

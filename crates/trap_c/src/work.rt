@@ -1,4 +1,4 @@
-ghost use Rattle.std.specs.Prelude.{◌≡◌, ◌≤◌, All, IfOk, length};
+ghost use Rattle.std.specs.Prelude.{◌≡◌, ◌≤◌, All, IfOk, MatchOption, length};
 ghost use Rattle.page_model.specs.Conditions.{IsPlane};
 ghost use Rattle.page_model.specs.Counts.{page_counts};
 ghost use Rattle.page_model.specs.Limits.{most_maxval};
@@ -8,7 +8,7 @@ ghost use Rattle.trap_c.specs.Fit.{IsCall};
 ghost use Rattle.job_reader.specs.Jobs.{job_of};
 ghost use Rattle.trap_c.specs.Calls.{Works};
 ghost use Rattle.trap_c.specs.WindowCalls.{WorksWindow};
-ghost use Rattle.trap_c.specs.Windows.{call_window, named_window, window_by};
+ghost use Rattle.trap_c.specs.Windows.{IsRead, call_window, named_window, window_by};
 ghost use Rattle.trap_c.specs.Places.{IsPlaced};
 ghost use Rattle.trap_c.specs.Requests.{asked};
 ghost use Rattle.trap_c.specs.Pages.{call_page, named_page, page_of as page_spec, error_or};
@@ -26,6 +26,7 @@ use crate::source::Source;
 use crate::tally::trapped_window;
 use crate::window::window_of;
 use common_errors::common::CommonError;
+use job_reader::job::Job;
 use lists::names::{Name, NameList, OutOfMemory};
 use page_model::laws::trapped_planes_law;
 use page_model::page::Page;
@@ -112,20 +113,22 @@ fn trap_whole(alloc: Global, page: &Page) -> Result<Done, OutOfMemory>
 }
 
 /// Carries out a window's call up to the planes after trapping, whose cores are still to be written to the samples.
-/// `most` is the greatest number that a sample's type holds.
+/// `most` is the greatest number that a sample's type holds, and `known` the job that was read of the request's bytes, if it was.
 pub fn carry_out_window(
     alloc: Global,
     most: u32,
     request: &Request<'_>,
+    known: Option<&Job>,
     place: &Place,
     source: &Source<'_>,
 ) -> Result<Done, CallError>
-    requires { most ≤ most_maxval }
+    requires most { most ≤ most_maxval }
+    requires read { MatchOption known (Unit {0}) (λ job. IsRead request.now.job.now job.now) }
     ensures { WorksWindow most request.now.layout place.now (numbers source.now)
         (call_window most (asked request.now) place.now (numbers source.now)) result }
 {
     match names_of(alloc, request.names) {
-        Ok(names) => carry_out_named_window(alloc, most, request, place, &names, source),
+        Ok(names) => carry_out_named_window(alloc, most, request, known, place, &names, source),
         Err(OutOfMemory) => Err(CallError::Page(CommonError::Memory)),
     }
 }
@@ -134,11 +137,13 @@ fn carry_out_named_window(
     alloc: Global,
     most: u32,
     request: &Request<'_>,
+    known: Option<&Job>,
     place: &Place,
     names: &NameList,
     source: &Source<'_>,
 ) -> Result<Done, CallError>
-    requires { most ≤ most_maxval }
+    requires most { most ≤ most_maxval }
+    requires read { MatchOption known (Unit {0}) (λ job. IsRead request.now.job.now job.now) }
     ensures { let layout = request.now.layout in
         WorksWindow most layout place.now (numbers source.now)
         (named_window most request.now.job.now names.now layout place.now (numbers source.now))
@@ -151,12 +156,13 @@ fn carry_out_named_window(
     if !is_place(layout, place) {
         return Err(CallError::Call(CallFault::Place));
     }
-    trap_window(alloc, request.job, names, source, layout, place)
+    trap_window(alloc, request.job, known, names, source, layout, place)
 }
 
 fn trap_window(
     alloc: Global,
     job: &[u8],
+    known: Option<&Job>,
     names: &NameList,
     source: &Source<'_>,
     layout: Layout,
@@ -164,15 +170,14 @@ fn trap_window(
 ) -> Result<Done, CallError>
     requires call { IsCall names.now layout (length (numbers source.now)) }
     requires placed { IsPlaced layout place.now }
+    requires read { MatchOption known (Unit {0}) (λ known. IsRead job.now known.now) }
     ensures { let planes = planes_in layout (numbers source.now) (length names.now) in
         WorksWindow layout.maxval layout place.now (numbers source.now)
         (window_by layout place.now (job_of job.now) names.now planes) result }
 {
-    match window_of(alloc, job, names, source, layout, place) {
-        Ok(page) => match trapped_window(alloc, &page, place) {
-            Ok(done) => Ok(done),
-            Err(OutOfMemory) => Err(CallError::Page(CommonError::Memory)),
-        },
-        Err(error) => Err(error),
+    let page = window_of(alloc, job, known, names, source, layout, place)?;
+    match trapped_window(alloc, &page, place) {
+        Ok(done) => Ok(done),
+        Err(OutOfMemory) => Err(CallError::Page(CommonError::Memory)),
     }
 }

@@ -15,7 +15,6 @@ use outside::rack::Rack;
 use outside::tray::Tray;
 use page_files::gather::gather;
 use page_model::page::Page;
-use page_model::parts::OutOfMemory;
 use page_output::output::{OutputArgs, put_out};
 use plain_words::files::{plate_inputs, plate_names, plate_outputs};
 use std::alloc::Global;
@@ -58,10 +57,8 @@ fn carry_out<H: Threads + Sync, T: Tray, R: Rack, G: Gate + Sync>(
         CarriesOut page.band (sources_of page) (targets_of page) (T.state tray.old)
         (T.state tray.new) (R.state rack.old) (R.state rack.new) result }
 {
-    match read_page(alloc, command, tray) {
-        Ok(page) => write_out(rt, alloc, command, &page, rack, gate),
-        Err(error) => Err(error),
-    }
+    let page = read_page(alloc, command, tray)?;
+    write_out(rt, alloc, command, &page, rack, gate)
 }
 
 // Reads the page of the command's job and plates.

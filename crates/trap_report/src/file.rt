@@ -30,10 +30,8 @@ pub fn write_report<R: Rack>(
     ensures { let text = report_of sheet.now counts.now in
         WritesFile name.now text (R.state rack.old) (R.state rack.new) result }
 {
-    match rack.create(name) {
-        Ok(()) => fill_report(rack, sheet, counts),
-        Err(DeviceError) => Err(DeviceError),
-    }
+    rack.create(name)?;
+    fill_report(rack, sheet, counts)
 }
 
 // Writes all of the open file, and finishes it.
@@ -45,10 +43,8 @@ fn fill_report<R: Rack>(rack: &mut R, sheet: &PageParts, counts: &Counts) -> Res
     ensures { let text = report_of sheet.now counts.now in
         FillsFile text (R.state rack.old) (R.state rack.new) result }
 {
-    match write_lines(rack, sheet, counts) {
-        Ok(()) => rack.finish(),
-        Err(DeviceError) => Err(DeviceError),
-    }
+    write_lines(rack, sheet, counts)?;
+    rack.finish()
 }
 
 fn write_lines<R: Rack>(rack: &mut R, sheet: &PageParts, counts: &Counts) -> Result<(), DeviceError>
@@ -59,10 +55,8 @@ fn write_lines<R: Rack>(rack: &mut R, sheet: &PageParts, counts: &Counts) -> Res
     ensures { WritesOn (report_of sheet.now counts.now) (R.state rack.old) (R.state rack.new)
         result }
 {
-    match write_head(rack, sheet) {
-        Ok(()) => write_body(rack, sheet, counts),
-        Err(DeviceError) => Err(DeviceError),
-    }
+    write_head(rack, sheet)?;
+    write_body(rack, sheet, counts)
 }
 
 fn write_head<R: Rack>(rack: &mut R, sheet: &PageParts) -> Result<(), DeviceError>
@@ -87,10 +81,8 @@ fn write_body<R: Rack>(rack: &mut R, sheet: &PageParts, counts: &Counts) -> Resu
         ++ line (codes "end"))) in
         WritesOn text (R.state rack.old) (R.state rack.new) result }
 {
-    match write_zones(rack, sheet.zones.len(), counts) {
-        Ok(()) => write_tail(rack, sheet, counts),
-        Err(DeviceError) => Err(DeviceError),
-    }
+    write_zones(rack, sheet.zones.len(), counts)?;
+    write_tail(rack, sheet, counts)
 }
 
 // Writes all lines after those of the zones.
@@ -103,10 +95,8 @@ fn write_tail<R: Rack>(rack: &mut R, sheet: &PageParts, counts: &Counts) -> Resu
         WritesOn text (R.state rack.old) (R.state rack.new) result }
 {
     let edges = edges_of(counts.edges);
-    match write_on(rack, edges.as_slice()) {
-        Ok(()) => write_last(rack, sheet, counts),
-        Err(DeviceError) => Err(DeviceError),
-    }
+    write_on(rack, edges.as_slice())?;
+    write_last(rack, sheet, counts)
 }
 
 // Writes the lines of the plates, and the last line.
@@ -118,10 +108,8 @@ fn write_last<R: Rack>(rack: &mut R, sheet: &PageParts, counts: &Counts) -> Resu
         ++ line (codes "end") in
         WritesOn text (R.state rack.old) (R.state rack.new) result }
 {
-    match write_plates(rack, sheet, counts) {
-        Ok(()) => write_on(rack, b"end\n"),
-        Err(DeviceError) => Err(DeviceError),
-    }
+    write_plates(rack, sheet, counts)?;
+    write_on(rack, b"end\n")
 }
 
 fn write_zones<R: Rack>(rack: &mut R, zones: usize, counts: &Counts) -> Result<(), DeviceError>
@@ -133,10 +121,7 @@ fn write_zones<R: Rack>(rack: &mut R, zones: usize, counts: &Counts) -> Result<(
     let samples = counts.zone_samples.as_slice();
     let changed = counts.zone_changed.as_slice();
     for zone in 0..zones {
-        match write_zone(rack, zone as u64, samples[zone], changed[zone]) {
-            Ok(()) => {}
-            Err(DeviceError) => return Err(DeviceError),
-        }
+        write_zone(rack, zone as u64, samples[zone], changed[zone])?;
     }
     Ok(())
 }
@@ -155,10 +140,7 @@ fn write_plates<R: Rack>(
     let inks = sheet.inks.as_slice();
     let changed = counts.plate_changed.as_slice();
     for c in 0..sheet.planes.len() {
-        match write_plate(rack, inks[c].name.as_slice(), changed[c]) {
-            Ok(()) => {}
-            Err(DeviceError) => return Err(DeviceError),
-        }
+        write_plate(rack, inks[c].name.as_slice(), changed[c])?;
     }
     Ok(())
 }

@@ -14,10 +14,8 @@ pub(crate) fn write_two<R: Rack>(rack: &mut R, first: &[u8], rest: &[u8]) -> Res
     requires { IsTrue (R.state rack.old).is_open }
     ensures { WritesOn (first.now ++ rest.now) (R.state rack.old) (R.state rack.new) result }
 {
-    match write_on(rack, first) {
-        Ok(()) => write_on(rack, rest),
-        Err(DeviceError) => Err(DeviceError),
-    }
+    write_on(rack, first)?;
+    write_on(rack, rest)
 }
 
 pub(crate) fn write_zone<R: Rack>(
@@ -43,10 +41,8 @@ pub(crate) fn write_plate<R: Rack>(
     requires { IsTrue (R.state rack.old).is_open }
     ensures { WritesOn (plate_line name.now changed) (R.state rack.old) (R.state rack.new) result }
 {
-    match write_on(rack, b"plate ") {
-        Ok(()) => write_named(rack, name, changed),
-        Err(DeviceError) => Err(DeviceError),
-    }
+    write_on(rack, b"plate ")?;
+    write_named(rack, name, changed)
 }
 
 // Writes the line of a plate from its name on.

@@ -34,14 +34,12 @@ pub(crate) fn next_byte<T: Tray>(
         unread.from += 1;
         return Ok(Some(byte));
     }
-    match tray.read(buf) {
-        Ok(0) => Ok(None),
-        Ok(count) => {
-            *unread = Unread { from: 1, to: count };
-            Ok(Some(buf[0]))
-        }
-        Err(DeviceError) => Err(DeviceError),
+    let count = tray.read(buf)?;
+    if count == 0 {
+        return Ok(None);
     }
+    *unread = Unread { from: 1, to: count };
+    Ok(Some(buf[0]))
 }
 
 /// Reads the next line, and returns whether there is one: a line without its LF, or a line that is too long, is none.
@@ -61,15 +59,14 @@ pub(crate) fn read_line<T: Tray>(
 {
     line.clear();
     while !line.is_full() {
-        match next_byte(tray, buf, unread) {
-            Ok(Some(byte)) => {
+        match next_byte(tray, buf, unread)? {
+            Some(byte) => {
                 line.push(byte);
                 if byte == b'\n' {
                     return Ok(true);
                 }
             }
-            Ok(None) => return Ok(false),
-            Err(DeviceError) => return Err(DeviceError),
+            None => return Ok(false),
         }
     }
     Ok(false)

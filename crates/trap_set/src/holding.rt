@@ -21,13 +21,9 @@ pub(crate) fn flush<R: Rack>(rack: &mut R, stored: &mut Stored) -> Result<(), De
         stored.old.items stored.new.items (R.state rack.old) (R.state rack.new) result }
     ensures none { OnOk result (stored.new.items ≡ []) }
 {
-    match write_on(rack, stored.as_slice()) {
-        Ok(()) => {
-            stored.clear();
-            Ok(())
-        }
-        Err(DeviceError) => Err(DeviceError),
-    }
+    write_on(rack, stored.as_slice())?;
+    stored.clear();
+    Ok(())
 }
 
 /// Appends a piece to the buffer, which is written first if the piece does not fit.
@@ -42,10 +38,10 @@ pub(crate) fn put<R: Rack>(
 {
     match stored.try_extend_from_slice(piece) {
         Ok(()) => Ok(()),
-        Err(_) => match flush(rack, stored) {
-            Ok(()) => put_past(rack, stored, piece),
-            Err(DeviceError) => Err(DeviceError),
-        },
+        Err(_) => {
+            flush(rack, stored)?;
+            put_past(rack, stored, piece)
+        }
     }
 }
 
@@ -72,8 +68,6 @@ pub(crate) fn put_number<R: Rack>(
     ensures { Puts (number n)
         stored.old.items stored.new.items (R.state rack.old) (R.state rack.new) result }
 {
-    match put(rack, stored, b" ") {
-        Ok(()) => put(rack, stored, Buffer::new().format(n).as_bytes()),
-        Err(DeviceError) => Err(DeviceError),
-    }
+    put(rack, stored, b" ")?;
+    put(rack, stored, Buffer::new().format(n).as_bytes())
 }

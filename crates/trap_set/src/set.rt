@@ -29,10 +29,8 @@ fn put_lines<R: Rack>(
         ++ rows_text old.now new.now (tall old.now))
         stored.old.items stored.new.items (R.state rack.old) (R.state rack.new) result }
 {
-    match put_head(rack, stored, old) {
-        Ok(()) => put_rows(rack, stored, old, new, width, height),
-        Err(DeviceError) => Err(DeviceError),
-    }
+    put_head(rack, stored, old)?;
+    put_rows(rack, stored, old, new, width, height)
 }
 
 /// Appends the whole set.
@@ -51,10 +49,8 @@ fn put_set<R: Rack>(
     ensures { Puts (set_text old.now new.now)
         stored.old.items stored.new.items (R.state rack.old) (R.state rack.new) result }
 {
-    match put_lines(rack, stored, old, new, width, height) {
-        Ok(()) => put(rack, stored, b"end\n"),
-        Err(DeviceError) => Err(DeviceError),
-    }
+    put_lines(rack, stored, old, new, width, height)?;
+    put(rack, stored, b"end\n")
 }
 
 /// Appends the whole set, and writes all of it.
@@ -74,10 +70,8 @@ fn put_whole<R: Rack>(
         stored.old.items stored.new.items (R.state rack.old) (R.state rack.new) result }
     ensures none { OnOk result (stored.new.items ≡ []) }
 {
-    match put_set(rack, stored, old, new, width, height) {
-        Ok(()) => flush(rack, stored),
-        Err(DeviceError) => Err(DeviceError),
-    }
+    put_set(rack, stored, old, new, width, height)?;
+    flush(rack, stored)
 }
 
 /// Writes the set to the open file.
@@ -88,10 +82,8 @@ fn fill_set<R: Rack>(rack: &mut R, old: &PlaneList, new: &PlaneList) -> Result<(
 {
     let first = &old.as_slice()[0];
     let mut stored = Stored::new();
-    match put_whole(rack, &mut stored, old, new, first.width, first.height) {
-        Ok(()) => rack.finish(),
-        Err(DeviceError) => Err(DeviceError),
-    }
+    put_whole(rack, &mut stored, old, new, first.width, first.height)?;
+    rack.finish()
 }
 
 /// Writes the set of the changes between two lists of planes of one shape to the file `name`. It allocates nothing.
@@ -105,8 +97,6 @@ pub fn write_set<R: Rack>(
     ensures { WritesFile name.now (set_text old.now new.now)
         (R.state rack.old) (R.state rack.new) result }
 {
-    match rack.create(name) {
-        Ok(()) => fill_set(rack, old, new),
-        Err(DeviceError) => Err(DeviceError),
-    }
+    rack.create(name)?;
+    fill_set(rack, old, new)
 }

@@ -40,10 +40,11 @@ pub(crate) fn read_title<T: Tray>(
     ensures within { IsIn buf.new unread.new }
 {
     let mut line = SetLine::new();
-    match read_line(tray, buf, unread, &mut line) {
-        Ok(true) => Ok(is_title(line.as_slice())),
-        Ok(false) => Ok(false),
-        Err(DeviceError) => Err(DeviceError),
+    let found = read_line(tray, buf, unread, &mut line)?;
+    if found {
+        Ok(is_title(line.as_slice()))
+    } else {
+        Ok(false)
     }
 }
 
@@ -68,10 +69,11 @@ pub(crate) fn read_page<T: Tray>(
     ensures within { IsIn buf.new unread.new }
 {
     let mut line = SetLine::new();
-    match read_line(tray, buf, unread, &mut line) {
-        Ok(true) => Ok(read_page_line(line.as_slice())),
-        Ok(false) => Ok(None),
-        Err(DeviceError) => Err(DeviceError),
+    let found = read_line(tray, buf, unread, &mut line)?;
+    if found {
+        Ok(read_page_line(line.as_slice()))
+    } else {
+        Ok(None)
     }
 }
 
@@ -97,10 +99,11 @@ pub(crate) fn read_next<T: Tray>(
     ensures within { IsIn buf.new unread.new }
 {
     let mut line = SetLine::new();
-    match read_line(tray, buf, unread, &mut line) {
-        Ok(true) => Ok(next_in(line.as_slice(), head, place, numbers)),
-        Ok(false) => Ok(Next::Bad),
-        Err(DeviceError) => Err(DeviceError),
+    let found = read_line(tray, buf, unread, &mut line)?;
+    if found {
+        Ok(next_in(line.as_slice(), head, place, numbers))
+    } else {
+        Ok(Next::Bad)
     }
 }
 

@@ -26,10 +26,7 @@ fn put_numbers<R: Rack>(
         stored.old.items stored.new.items (R.state rack.old) (R.state rack.new) result }
 {
     for n in numbers {
-        match put_number(rack, stored, *n) {
-            Ok(()) => {}
-            Err(DeviceError) => return Err(DeviceError),
-        }
+        put_number(rack, stored, *n)?;
     }
     Ok(())
 }
@@ -51,10 +48,7 @@ fn put_tints<R: Rack>(
         stored.old.items stored.new.items (R.state rack.old) (R.state rack.new) result }
 {
     for c in 0..planes.len() as u32 {
-        match put_number(rack, stored, u32::from(tint_of(planes, c, x, y))) {
-            Ok(()) => {}
-            Err(DeviceError) => return Err(DeviceError),
-        }
+        put_number(rack, stored, u32::from(tint_of(planes, c, x, y)))?;
     }
     Ok(())
 }
@@ -71,10 +65,8 @@ fn put_place<R: Rack>(
     ensures { Puts (codes "run" ++ flat_map number (y ∷ x ∷ count ∷ []))
         stored.old.items stored.new.items (R.state rack.old) (R.state rack.new) result }
 {
-    match put(rack, stored, b"run") {
-        Ok(()) => put_numbers(rack, stored, &[y, x, count]),
-        Err(DeviceError) => Err(DeviceError),
-    }
+    put(rack, stored, b"run")?;
+    put_numbers(rack, stored, &[y, x, count])
 }
 
 /// Appends a sample's tints and the end of the line.
@@ -92,10 +84,8 @@ fn put_last_tints<R: Rack>(
     ensures { Puts (flat_map number (list_below (λ c. tint_at planes.now c x y) (length planes.now))
         ++ 10 ∷ []) stored.old.items stored.new.items (R.state rack.old) (R.state rack.new) result }
 {
-    match put_tints(rack, stored, planes, x, y) {
-        Ok(()) => put(rack, stored, b"\n"),
-        Err(DeviceError) => Err(DeviceError),
-    }
+    put_tints(rack, stored, planes, x, y)?;
+    put(rack, stored, b"\n")
 }
 
 /// Appends the line of the run that begins at a sample.
@@ -117,10 +107,8 @@ fn put_run<R: Rack>(
         stored.old.items stored.new.items (R.state rack.old) (R.state rack.new) result }
 {
     let count = run_length(old, new, x, y, width);
-    match put_place(rack, stored, x, y, count) {
-        Ok(()) => put_last_tints(rack, stored, new, x, y),
-        Err(DeviceError) => Err(DeviceError),
-    }
+    put_place(rack, stored, x, y, count)?;
+    put_last_tints(rack, stored, new, x, y)
 }
 
 /// Appends the line of the run that begins at a sample, if one does.
@@ -169,10 +157,8 @@ fn put_row<R: Rack>(
         if x < next {
             x = next;
         } else {
-            match put_sample(rack, stored, old, new, x, y, width) {
-                Ok(()) => x += 1,
-                Err(DeviceError) => return Err(DeviceError),
-            }
+            put_sample(rack, stored, old, new, x, y, width)?;
+            x += 1;
         }
     }
     Ok(())
@@ -195,10 +181,7 @@ pub(crate) fn put_rows<R: Rack>(
         stored.old.items stored.new.items (R.state rack.old) (R.state rack.new) result }
 {
     for y in 0..height {
-        match put_row(rack, stored, old, new, y, width) {
-            Ok(()) => {}
-            Err(DeviceError) => return Err(DeviceError),
-        }
+        put_row(rack, stored, old, new, y, width)?;
     }
     Ok(())
 }
@@ -215,10 +198,8 @@ fn put_sides<R: Rack>(
     ensures { Puts ((title_line ++ codes "page") ++ flat_map number (width ∷ height ∷ maxval ∷ []))
         stored.old.items stored.new.items (R.state rack.old) (R.state rack.new) result }
 {
-    match put(rack, stored, b"trap set\npage") {
-        Ok(()) => put_numbers(rack, stored, &[width, height, maxval]),
-        Err(DeviceError) => Err(DeviceError),
-    }
+    put(rack, stored, b"trap set\npage")?;
+    put_numbers(rack, stored, &[width, height, maxval])
 }
 
 /// Appends the number of planes.
@@ -227,10 +208,8 @@ fn put_count<R: Rack>(rack: &mut R, stored: &mut Stored, plates: u32) -> Result<
     ensures { Puts (codes " plates" ++ number plates)
         stored.old.items stored.new.items (R.state rack.old) (R.state rack.new) result }
 {
-    match put(rack, stored, b" plates") {
-        Ok(()) => put_number(rack, stored, plates),
-        Err(DeviceError) => Err(DeviceError),
-    }
+    put(rack, stored, b" plates")?;
+    put_number(rack, stored, plates)
 }
 
 /// Appends the number of planes, and the end of the line.
@@ -239,10 +218,8 @@ fn put_plates<R: Rack>(rack: &mut R, stored: &mut Stored, plates: u32) -> Result
     ensures { Puts ((codes " plates" ++ number plates) ++ 10 ∷ [])
         stored.old.items stored.new.items (R.state rack.old) (R.state rack.new) result }
 {
-    match put_count(rack, stored, plates) {
-        Ok(()) => put(rack, stored, b"\n"),
-        Err(DeviceError) => Err(DeviceError),
-    }
+    put_count(rack, stored, plates)?;
+    put(rack, stored, b"\n")
 }
 
 /// Appends the first two lines.
@@ -258,8 +235,6 @@ pub(crate) fn put_head<R: Rack>(
 {
     let first = &planes.as_slice()[0];
     let plates = planes.len() as u32;
-    match put_sides(rack, stored, first.width, first.height, first.maxval) {
-        Ok(()) => put_plates(rack, stored, plates),
-        Err(DeviceError) => Err(DeviceError),
-    }
+    put_sides(rack, stored, first.width, first.height, first.maxval)?;
+    put_plates(rack, stored, plates)
 }

@@ -3,7 +3,7 @@ use Rattle.std.proofs.Common.{◌≡◌, ◌⊎◌, ℕ, ◌<◌, List, [], ◌�
 use Rattle.std.proofs.lemmas.List.{length-append}
 use Rattle.keep_pages.specs.KeptPages.{keep_report, kept_planes}
 use Rattle.keep_words.specs.Words.{KeepWords}
-use Rattle.keepaway.specs.declared.parts.RichBlack.{RichBlack}
+use Rattle.keep_pages.specs.declared.uses.KeepUse.{KeepUse}
 use Rattle.outside.specs.ErrorCases.{Asks}
 use Rattle.outside.specs.Tray.{TrayState}
 use Rattle.outside.specs.Rack.{RackState, KeepsRack}
@@ -21,7 +21,7 @@ use Rattle.common_errors.specs.declared.common.CommonError.{CommonError}
 use Rattle.common_errors.specs.declared.common.CommonError.TheVariants as reasons
 use Rattle.trapkeep_cli.specs.declared.reason.TrapkeepError.{TrapkeepError}
 use Rattle.trapkeep_cli.specs.declared.reason.TrapkeepError.TheVariants as errors
-use Rattle.trapkeep_cli.specs.Commands.{IsRich, IsWide, sources_of, written_names, written_plates}
+use Rattle.trapkeep_cli.specs.Commands.{IsUsed, IsWide, sources_of, written_names, written_plates}
 use Rattle.trapkeep_cli.specs.Endings.{Answers, CarriesOut, NotRead}
 use Rattle.trapkeep_cli.specs.Putting.{AnswersPut, IsKept, IsKeptPage, PutsPage}
 use Rattle.trapkeep_cli.specs.Verdicts.{keep_files}
@@ -72,26 +72,26 @@ page_unread words a b r error (inr reads) = not_read words a b r error reads
 
 -- The page was read, and is put out.
 module _ (words : KeepWords) (page : PageParts) (a b : TrayState) (r r' : RackState) (reads : Gathers (sources_of words) a b (Ok page)) (valid : IsPage page) where
-  some_file : (rich : RichBlack) → 0 < length (keep_files words page rich)
-  some_file rich = omega (arith, length-append (plate_files (written_plates words) (kept_planes page rich)) (record { name = words.report; bytes = keep_report page rich } ∷ []))
+  some_file : (used : KeepUse) → 0 < length (keep_files words page used)
+  some_file used = omega (arith, length-append (plate_files (written_plates words) (kept_planes page used)) (record { name = words.report; bytes = keep_report page used } ∷ []))
 
   put_answer : (result : Result (Unit {0}) TrapkeepError) → AnswersPut words page r r' result → Answers words a b r r' result
-  put_answer (Ok nothing) (rich, kept, wrote) = record {
+  put_answer (Ok nothing) (used, kept, wrote) = record {
     calm = reads.count;
     begun = reads.answer.1;
-    written = keep_files words page rich;
-    to_write = ((page, rich, valid, kept.is, refl), λ tells. (page, rich, reads.answer.2 tells, kept.narrow, kept.is, refl));
-    some = some_file rich;
+    written = keep_files words page used;
+    to_write = ((page, used, valid, kept.is, refl), λ tells. (page, used, reads.answer.2 tells, kept.narrow, kept.is, refl));
+    some = some_file used;
     wrote = wrote;
     created = subst (λ (names : List (List ℕ)). Asks r.asked r'.asked names) kept.named wrote.asked;
     finished = subst (λ (names : List (List ℕ)). FinishesAll names r r') kept.named wrote.finished;
   }
-  put_answer (Err (errors.Page (reasons.Write file))) (rich, kept, breaks, once) = inr (
+  put_answer (Err (errors.Page (reasons.Write file))) (used, kept, breaks, once) = inr (
     record {
       calm = reads.count;
       begun = reads.answer.1;
-      written = keep_files words page rich;
-      to_write = ((page, rich, valid, kept.is, refl), λ tells. (page, rich, reads.answer.2 tells, kept.narrow, kept.is, refl));
+      written = keep_files words page used;
+      to_write = ((page, used, valid, kept.is, refl), λ tells. (page, used, reads.answer.2 tells, kept.narrow, kept.is, refl));
       file = file;
       is = refl;
       breaks = breaks;

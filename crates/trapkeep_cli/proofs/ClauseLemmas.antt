@@ -244,4 +244,4 @@ module _ (words : List (List ℕ)) (t t' : TrayState) (r r' : RackState) (status
   }
 
 pub locality : (words : List (List ℕ)) (t : TrayState) → Locality words t
-locality words t keep made rich means tells makes is c p = page_locality made rich c p
+locality words t keep made used means tells makes is c p = page_locality made used c p

@@ -2,3 +2,4 @@ pub mod CarryLemmas
 pub mod ClauseLemmas
 pub mod OneVerdict
 pub mod PutLemmas
+pub mod UseLemmas

@@ -3,7 +3,7 @@ use Rattle.std.proofs.Common.{◌≡◌, ℕ, ◌<◌, ◌++◌, [], ◌∷◌, 
 use Rattle.std.proofs.lemmas.List.{length-map}
 use Rattle.keep_pages.specs.KeptPages.{keep_report, kept_planes}
 use Rattle.keep_words.specs.Words.{KeepWords}
-use Rattle.keepaway.specs.declared.parts.RichBlack.{RichBlack}
+use Rattle.keep_pages.specs.declared.uses.KeepUse.{KeepUse}
 use Rattle.outside.specs.Rack.{RackState}
 use Rattle.page_model.specs.declared.parts.PageParts.{PageParts}
 use Rattle.page_model.specs.declared.parts.Plane.{Plane}
@@ -17,7 +17,7 @@ use Rattle.common_errors.specs.declared.common.CommonError.{CommonError}
 use Rattle.common_errors.specs.declared.common.CommonError.TheVariants as reasons
 use Rattle.trapkeep_cli.specs.declared.reason.TrapkeepError.{TrapkeepError}
 use Rattle.trapkeep_cli.specs.declared.reason.TrapkeepError.TheVariants as errors
-use Rattle.trapkeep_cli.specs.Commands.{IsRich, IsWide, written_names, written_plates}
+use Rattle.trapkeep_cli.specs.Commands.{IsUsed, IsWide, written_names, written_plates}
 use Rattle.trapkeep_cli.specs.Putting.{AnswersPut, IsKept, IsKeptPage, PutsPage}
 use Rattle.trapkeep_cli.specs.Verdicts.{keep_files}
 
@@ -26,10 +26,10 @@ abbrev pub handed : Result (Unit {0}) CommonError → Result (Unit {0}) Trapkeep
 handed (Ok x) = Ok x
 handed (Err error) = Err (errors.Page error)
 
-module _ (words : KeepWords) (page : PageParts) (rich : RichBlack) (a b : RackState) (kept : IsKept words page rich) where
-  answer_put : (result : Result (Unit {0}) CommonError) → AnswersWriting (length (written_plates words)) (keep_files words page rich) a b result → FailsOnce a b result → AnswersPut words page a b (handed result)
-  answer_put (Ok x) answer once = (rich, kept, answer)
-  answer_put (Err (reasons.Write file)) answer once = (rich, kept, answer, once)
+module _ (words : KeepWords) (page : PageParts) (used : KeepUse) (a b : RackState) (kept : IsKept words page used) where
+  answer_put : (result : Result (Unit {0}) CommonError) → AnswersWriting (length (written_plates words)) (keep_files words page used) a b result → FailsOnce a b result → AnswersPut words page a b (handed result)
+  answer_put (Ok x) answer once = (used, kept, answer)
+  answer_put (Err (reasons.Write file)) answer once = (used, kept, answer, once)
   answer_put (Err reasons.Usage) answer once = absurd answer
   answer_put (Err (reasons.Job fault)) answer once = absurd answer
   answer_put (Err (reasons.NoDetails k)) answer once = absurd answer
@@ -46,13 +46,13 @@ pub page_written : (words : KeepWords) (page : PageParts) (outputs : List (List 
 page_written words page outputs planes report text a b result valid narrow kept named count reported wrote =
     let one = subst (λ (o : List (List ℕ)). WritesPage {T = Unit {0}} o planes words.report text a b result) named wrote in
     let two = subst (λ (p : List Plane). WritesPage {T = Unit {0}} (written_plates words) p words.report text a b result) kept.planes_are one in
-    let all = subst (λ (t : List ℕ). WritesPage {T = Unit {0}} (written_plates words) (kept_planes page kept.rich) words.report t a b result) (reported ∙ kept.report_is) two in
-    let many : length (kept_planes page kept.rich) ≡ length (written_plates words) = sym (ap (λ (p : List Plane). length p) kept.planes_are) ∙ count in
-    let names = page_names (written_plates words) (kept_planes page kept.rich) words.report (keep_report page kept.rich) many in
+    let all = subst (λ (t : List ℕ). WritesPage {T = Unit {0}} (written_plates words) (kept_planes page kept.used) words.report t a b result) (reported ∙ kept.report_is) two in
+    let many : length (kept_planes page kept.used) ≡ length (written_plates words) = sym (ap (λ (p : List Plane). length p) kept.planes_are) ∙ count in
+    let names = page_names (written_plates words) (kept_planes page kept.used) words.report (keep_report page kept.used) many in
     record {
       valid = valid;
       keeps = all.keeps;
       reported = all.reported;
       asked = all.asked;
-      answer = answer_put words page kept.rich a b (record { is = kept.is; narrow = narrow; named = names }) result all.answer all.once;
+      answer = answer_put words page kept.used a b (record { is = kept.is; narrow = narrow; named = names }) result all.answer all.once;
     }

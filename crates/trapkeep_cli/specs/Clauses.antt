@@ -3,8 +3,8 @@
 use Rattle.std.specs.Prelude.{◌≡◌, ◌≢◌, ◌⊎◌, ℕ, ◌≤◌, IsTrue, IsFalse, List, Option, Some, None, Ok}
 use Rattle.std.specs.Prelude.{length}
 use Rattle.keep_words.specs.Words.{KeepWords, keep_of}
-use Rattle.keepaway.specs.declared.parts.RichBlack.{RichBlack}
-use Rattle.keepaway.specs.Laws.{Locality as PixelLocality}
+use Rattle.keep_pages.specs.declared.uses.KeepUse.{KeepUse}
+use Rattle.keep_pages.specs.KeptPages.{Locality as PixelLocality}
 use Rattle.outside.specs.ErrorCases.{Rose, Asks, AsksPrefix}
 use Rattle.outside.specs.Tray.{TrayState}
 use Rattle.outside.specs.Rack.{RackState}
@@ -20,7 +20,7 @@ use Rattle.common_errors.specs.Telling.{TellsText, TellsAfterFault}
 use Rattle.trapkeep_cli.specs.declared.reason.TrapkeepError.{TrapkeepError}
 use Rattle.trapkeep_cli.specs.declared.reason.TrapkeepError.TheVariants.{NoCommand, Page}
 use Rattle.trapkeep_cli.specs.ErrorCases.{error_line, error_status}
-use Rattle.trapkeep_cli.specs.Commands.{IsRich, sources_of, written_names, written_plates}
+use Rattle.trapkeep_cli.specs.Commands.{IsUsed, sources_of, written_names, written_plates}
 use Rattle.trapkeep_cli.specs.Endings.{BreaksOff, HasInHand, IsToWrite, Passes, names_to}
 use Rattle.trapkeep_cli.specs.Verdicts.{IsVerdict, Refused, Out}
 
@@ -124,11 +124,12 @@ FaultLine rack rack' status = status ≢ done → status ≢ not_written → (re
     × (status ≡ error_status reason) × TellsText (error_line reason) rack rack'
 
 -- Where the job and the plates make a page, no ink is gained on it, and a tint changes only at a
--- pixel that is covered and open, to that of a pixel within the width that is not covered.
+-- pixel that is covered, to that of a pixel within the width that is not covered: under black only
+-- where the pixel is open, and under colour only on the plate of an underprint.
 abbrev pub Locality : List (List ℕ) → TrayState → Type 0
-Locality words tray = (keep : KeepWords) (made : PageParts) (rich : RichBlack) → Mean words keep
-    → IsTrue tray.tells → Makes one_page tray.file (sources_of keep) (Ok made) → IsRich keep rich
-    → (c : ℕ) (p : At) → PixelLocality made rich c p
+Locality words tray = (keep : KeepWords) (made : PageParts) (used : KeepUse) → Mean words keep
+    → IsTrue tray.tells → Makes one_page tray.file (sources_of keep) (Ok made) → IsUsed keep used
+    → (c : ℕ) (p : At) → PixelLocality made used c p
 
 -- Where the verdict is a list of files and no count rose, the status is 0 or 7. Every status is 0
 -- or one of 2 to 7.

@@ -2,7 +2,7 @@
 use Rattle.std.specs.Prelude.{◌≡◌, ◌⊎◌, ℕ, ◌<◌, IsTrue, List, length, Option, Some, None, Result}
 use Rattle.std.specs.Prelude.{Ok, Err}
 use Rattle.keep_words.specs.Words.{KeepWords, keep_of}
-use Rattle.keepaway.specs.declared.parts.RichBlack.{RichBlack}
+use Rattle.keep_pages.specs.declared.uses.KeepUse.{KeepUse}
 use Rattle.outside.specs.ErrorCases.{Rose, RoseOnce, Asks, AsksPrefix}
 use Rattle.outside.specs.Tray.{TrayState}
 use Rattle.outside.specs.Rack.{RackState, KeepsRack}
@@ -18,13 +18,13 @@ use Rattle.common_errors.specs.Statuses.{done, job_refused, page_refused, not_re
 use Rattle.trapkeep_cli.specs.declared.reason.TrapkeepError.{TrapkeepError}
 use Rattle.trapkeep_cli.specs.declared.reason.TrapkeepError.TheVariants.{NoCommand, Page}
 use Rattle.trapkeep_cli.specs.ErrorCases.{RefusesError, error_status}
-use Rattle.trapkeep_cli.specs.Commands.{IsRich, sources_of, written_names, written_plates}
+use Rattle.trapkeep_cli.specs.Commands.{IsUsed, sources_of, written_names, written_plates}
 use Rattle.trapkeep_cli.specs.Verdicts.{IsVerdict, Refused, Out, keep_files}
 
 -- What a command may write, whatever its files: a page whose inks are drawn back.
 abbrev pub MayWrite : KeepWords → List Written → Type 0
-MayWrite words written = (page : PageParts) × (rich : RichBlack) × IsPage page × IsRich words rich
-    × (written ≡ keep_files words page rich)
+MayWrite words written = (page : PageParts) × (used : KeepUse) × IsPage page × IsUsed words used
+    × (written ≡ keep_files words page used)
 
 -- What a command is to write: where the tray tells, what its files give.
 abbrev pub IsToWrite : KeepWords → TrayState → List Written → Type 0

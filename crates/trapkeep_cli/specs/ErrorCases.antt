@@ -11,7 +11,7 @@ use Rattle.common_errors.specs.Telling.{KeepsFiles, TellsText}
 -- the line that is printed for a cause
 abbrev pub error_line : TrapkeepError → List ℕ
 error_line NoCommand = line
-    (codes "usage: trapkeep --rich-black WIDTH [--black-limit LIMIT] [--except NAME] ... JOB REPORT NAME:IN:OUT ...")
+    (codes "usage: trapkeep --rich-black W [--black-limit L] [--except NAME] ... JOB REPORT NAME:IN:OUT ... | trapkeep --underprint NAME=W ... JOB REPORT NAME:IN:OUT ...")
 error_line (Page error) = line_of error
 error_line TooWide = line (codes "keepaway: TooWide")
 

@@ -1,4 +1,5 @@
-//! The program trapkeep: inks are drawn back under black. Its top call, and what each answer means.
+//! The program trapkeep: inks are drawn back under black, or whites under colour. Its top call, and what each answer
+//! means.
 #![tactic(auto)]
 
 mod carry;

@@ -1,18 +1,19 @@
 // A page that was read: its inks drawn back, and its files written.
 
-ghost use Rattle.std.specs.Prelude.{◌≡◌, ◌≤◌, ◌<◌, ◌↔◌, IfOk, IsTrue, length, map};
+ghost use Rattle.std.specs.Prelude.{◌≡◌, ◌≤◌, ◌<◌, ◌↔◌, IfOk, IsTrue, codes, length, map, string_bytes};
 ghost use Rattle.page_model.specs.Page.{plates};
 ghost use Rattle.keep_words.specs.Stored.{IsWithin, keep_in};
-ghost use Rattle.keepaway.specs.Rows.{Reaches};
-ghost use Rattle.page_model.specs.Limits.{most_plates};
-ghost use Rattle.trapkeep_cli.specs.Commands.{IsRich, IsWide, written_plates};
+ghost use Rattle.keep_words.specs.Words.{options_of, values_after, widest as widest_spec};
+ghost use Rattle.page_model.specs.Limits.{most_plates, most_trap_width, scale};
+ghost use Rattle.trapkeep_cli.specs.Commands.{IsRich, IsUsed, IsWide, written_plates};
 ghost use Rattle.trapkeep_cli.specs.Putting.{IsKeptPage, PutsPage};
 
 use crate::reason::TrapkeepError;
 use common_errors::common::CommonError;
 use keep_pages::laws::kept_planes_law;
-use keep_pages::{Kept, keep_page};
-use keep_words::words::{KeepArgs, spared_names};
+use keep_pages::{KeepUse, Kept, keep_page};
+use keep_words::whites::{whites_in, widest_white};
+use keep_words::words::{KeepArgs, UseArgs, spared_names};
 use keepaway::RichBlack;
 use outside::rack::Rack;
 use page_files::writing::write_page;
@@ -24,25 +25,60 @@ use std::alloc::Global;
 /// 128 pixels, twice in ten-thousandths of a point times the resolution.
 const WIDEST: u64 = 256 * 720_000;
 
-// Whether the width is more than 128 pixels.
+// The greatest width that is asked for.
+fn widest(command: &KeepArgs<'_>) -> u32
+    requires { IsWithin command.now }
+    ensures value { result ≡ widest_spec (keep_in command.now).used }
+    ensures narrow { result ≤ most_trap_width }
+{
+    match command.used {
+        UseArgs::Black { width, limit: _ } => width,
+        UseArgs::Colour => widest_white(command.options),
+    }
+}
+
+// Whether a width is more than 128 pixels.
 fn is_wide(command: &KeepArgs<'_>, page: &Page) -> bool
     requires { IsWithin command.now }
     ensures { IsTrue result ↔ IsWide (keep_in command.now) page.now }
 {
     let _valid = page.plates();
-    WIDEST < 2 * (u64::from(command.width) * u64::from(page.resolution()))
+    WIDEST < 2 * (u64::from(widest(command)) * u64::from(page.resolution()))
 }
 
-// How inks are drawn back.
-fn rich_of(alloc: Global, command: &KeepArgs<'_>) -> Result<RichBlack, OutOfMemory>
-    requires { IsWithin command.now }
-    ensures { IfOk result (λ rich. IsRich (keep_in command.now) rich) }
+// How inks are drawn back under black.
+fn rich_of(
+    alloc: Global,
+    options: &[String],
+    width: u32,
+    limit: u32,
+) -> Result<RichBlack, OutOfMemory>
+    requires narrow { width ≤ most_trap_width }
+    requires share { limit ≤ scale }
+    ensures { IfOk result (IsRich width limit
+        (values_after (codes "--except") (options_of (map string_bytes options.now)))) }
 {
     Ok(RichBlack {
-        width: command.width,
-        limit: command.limit,
-        spared: spared_names(alloc, command.options)?,
+        width,
+        limit,
+        spared: spared_names(alloc, options)?,
     })
+}
+
+// What is drawn back.
+fn used_of(alloc: Global, command: &KeepArgs<'_>) -> Result<KeepUse, OutOfMemory>
+    requires { IsWithin command.now }
+    ensures { IfOk result (λ used. IsUsed (keep_in command.now) used) }
+{
+    match command.used {
+        UseArgs::Black { width, limit } => Ok(KeepUse::UnderBlack(rich_of(
+            alloc,
+            command.options,
+            width,
+            limit,
+        )?)),
+        UseArgs::Colour => Ok(KeepUse::UnderColour(whites_in(alloc, command.options)?)),
+    }
 }
 
 // The page with its inks drawn back.
@@ -52,9 +88,9 @@ fn kept_of(alloc: Global, command: &KeepArgs<'_>, page: &Page) -> Result<Kept, O
     ensures { IfOk result (λ kept. IsKeptPage (keep_in command.now) page.now
         kept.planes kept.report) }
 {
-    let rich = rich_of(alloc, command)?;
-    kept_planes_law(page, &rich);
-    let kept = keep_page(alloc, page, &rich)?;
+    let used = used_of(alloc, command)?;
+    kept_planes_law(page, &used);
+    let kept = keep_page(alloc, page, &used)?;
     Ok(kept)
 }
 

@@ -12,12 +12,13 @@ use std::alloc::Global;
 
 /// Runs the command of the words, and returns the status that the program exits with.
 ///
-/// `--rich-black WIDTH [--black-limit LIMIT] [--except NAME] ... JOB REPORT NAME:IN:OUT ...` reads the job, then each
+/// `--rich-black W [--black-limit L] [--except NAME] ... JOB REPORT NAME:IN:OUT ...` reads the job, then each
 /// plate in the order of the words, draws the inks under black back from where black ends, and only then writes: each
-/// plate in order, and then the report. There are one to sixteen plates. There are no threads.
+/// plate in order, and then the report. `--underprint NAME=W ... JOB REPORT NAME:IN:OUT ...` does the same with
+/// whites under colour. There are one to sixteen plates. There are no threads.
 ///
 /// The status is 0 if the work is done; 2 if the words are no command; 3 if the job has a fault or lacks the details of
-/// a plate's colorant; 4 if a plate's file has a fault, the plates do not make a page, or the width is more than 128
+/// a plate's colorant; 4 if a plate's file has a fault, the plates do not make a page, or a width is more than 128
 /// pixels; 5 if a read failed; 6 if a write failed; and 7 if memory ran out. Each error prints one line that names the
 /// cause.
 pub fn trapkeep_main<T: Tray, R: Rack>(

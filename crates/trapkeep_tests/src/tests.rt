@@ -12,10 +12,13 @@ const CYAN: &[u8] = b"P5\n6 1\n255\n\xFFddddd";
 
 const BLACK: &[u8] = b"P5\n6 1\n255\n\xFF\0\0\0\0\xFF";
 
+// A shape of full ink, which serves as white and as the colour on it.
+const SHAPE: &[u8] = b"P5\n10 1\n255\n\xFF\xFF\0\0\0\0\0\0\0\0";
+
 const USUAL: &str = "--rich-black 1 job report Cyan:in0:out0 Black:in1:out1";
 
 const USAGE: &str =
-    "usage: trapkeep --rich-black WIDTH [--black-limit LIMIT] [--except NAME] ... JOB REPORT NAME:IN:OUT ...\n";
+    "usage: trapkeep --rich-black W [--black-limit L] [--except NAME] ... JOB REPORT NAME:IN:OUT ... | trapkeep --underprint NAME=W ... JOB REPORT NAME:IN:OUT ...\n";
 
 // the files that a run may write
 const WRITTEN: &[&str] = &["out0", "out1", "report"];
@@ -41,6 +44,14 @@ const SPARED: Files<'static> = &[
     ),
 ];
 
+const WHITE_DRAWN: Files<'static> = &[
+    Some(b"P5\n10 1\n255\n\xFF\xFF\xFF\0\0\0\0\0\0\0"),
+    Some(SHAPE),
+    Some(
+        b"keepaway report\npage 10 1 255 plates 2\ncovered 8\nplate Cyan rich-black 0 underprint 1\nplate Black rich-black 0 underprint 0\nend\n",
+    ),
+];
+
 fn put(rt: &impl Abort, alloc: Global, files: &mut FileList, name: &str, pieces: &[&[u8]]) {
     assert!(rt; put_file(alloc, files, name, pieces).is_ok(), "no memory");
 }
@@ -50,6 +61,7 @@ fn files_of(rt: &impl Abort, alloc: Global) -> FileList {
     put(rt, alloc, &mut files, "job", &[INKS, WIDE]);
     put(rt, alloc, &mut files, "in0", &[CYAN]);
     put(rt, alloc, &mut files, "in1", &[BLACK]);
+    put(rt, alloc, &mut files, "in2", &[SHAPE]);
     files
 }
 
@@ -117,7 +129,11 @@ const OTHER_WORDS: &[&str] = &[
     "--rich-black 1 --black-limit 1.1 job report Cyan:in0:out0",
     "--rich-black 1 job report Cyan:in0:report",
     "--rich-black 1 job report Cyan:in0:in0",
-    "--underprint Cyan=1 job report Cyan:in0:out0",
+    "--underprint Cyan job report Cyan:in0:out0",
+    "--underprint Green=1 job report Cyan:in0:out0",
+    "--underprint Cyan=1 --underprint Cyan=2 job report Cyan:in0:out0",
+    "--underprint Cyan=1 --rich-black 1 job report Cyan:in0:out0",
+    "--underprint Cyan=1 --except Cyan job report Cyan:in0:out0",
 ];
 
 #[test]
@@ -137,6 +153,18 @@ fn inks_are_drawn_back_under_black(rt: HostRuntime) {
         0,
         "",
         SPARED,
+    );
+}
+
+#[test]
+fn white_is_drawn_back_under_colour(rt: HostRuntime) {
+    judge(
+        &rt,
+        rt.alloc(),
+        "--underprint Cyan=1 job report Cyan:in2:out0 Black:in2:out1",
+        0,
+        "",
+        WHITE_DRAWN,
     );
 }
 

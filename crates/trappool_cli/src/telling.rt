@@ -6,7 +6,6 @@ ghost use Rattle.trappool_cli.specs.Answers.{TellsPart, TellsWhole};
 ghost use Rattle.trappool_cli.specs.Text.{job_line, job_name as name_spec, said_text};
 
 use crate::answering::LineStatus;
-use common_errors::fault_line::fault_line;
 use common_errors::line::Line;
 use outside::rack::Rack;
 use outside::tray::DeviceError;
@@ -21,10 +20,8 @@ pub(crate) fn tell_job<R: Rack>(
         (λ _. TellsWhole (job_line number said.now) (R.state rack.old) (R.state rack.new))
         (λ _. TellsPart (job_line number said.now) (R.state rack.old) (R.state rack.new)) }
 {
-    match rack.tell(job_name(number).as_slice()) {
-        Ok(()) => tell_status(rack, said),
-        Err(DeviceError) => Err(DeviceError),
-    }
+    rack.tell(job_name(number).as_slice())?;
+    tell_status(rack, said)
 }
 
 fn tell_status<R: Rack>(rack: &mut R, said: &LineStatus) -> Result<(), DeviceError>
@@ -33,7 +30,7 @@ fn tell_status<R: Rack>(rack: &mut R, said: &LineStatus) -> Result<(), DeviceErr
     match said {
         LineStatus::Done => rack.tell(b"done\n"),
         LineStatus::TooLarge => rack.tell(b"TooLarge\n"),
-        LineStatus::Refused(error) => rack.tell(fault_line(error).as_slice()),
+        LineStatus::Refused(error) => rack.tell(error.line().as_slice()),
     }
 }
 

@@ -1,7 +1,7 @@
 ghost use Rattle.std.specs.Prelude.{◌≡◌};
 ghost use Rattle.traprun_cli.specs.Errors.{status_of_error, error_at};
 
-use common_errors::common::{CommonError, status};
+use common_errors::common::CommonError;
 use common_errors::statuses::{JOB_REFUSED, PAGE_REFUSED};
 
 /// Why a run over many pages stopped. Pages and plates are numbered from 0.
@@ -20,16 +20,18 @@ pub enum TraprunError {
     Extra(u32),
 }
 
-/// The status that the program exits with, one of `common_errors::statuses`.
-pub fn error_status(error: &TraprunError) -> u8
-    ensures { result ≡ status_of_error error.now }
-{
-    match error {
-        TraprunError::Whole(common_error) | TraprunError::AtPage(_, common_error) => status(
-            common_error,
-        ),
-        TraprunError::TooManyPages(_) => JOB_REFUSED,
-        TraprunError::Ends(_, _) | TraprunError::Extra(_) => PAGE_REFUSED,
+impl TraprunError {
+    /// The status that the program exits with, one of `common_errors::statuses`.
+    pub fn exit_status(&self) -> u8
+        ensures { result ≡ status_of_error self.now }
+    {
+        match self {
+            TraprunError::Whole(common_error) | TraprunError::AtPage(_, common_error) => {
+                common_error.exit_status()
+            }
+            TraprunError::TooManyPages(_) => JOB_REFUSED,
+            TraprunError::Ends(_, _) | TraprunError::Extra(_) => PAGE_REFUSED,
+        }
     }
 }
 

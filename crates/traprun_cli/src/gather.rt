@@ -104,11 +104,9 @@ fn gather_images<T: Tray>(
         GathersPage (sources_of order) opened.now.job page (T.state tray.old) (T.state tray.new)
         result }
 {
-    match read_images(alloc, tray, page, opened.inputs.as_slice()) {
-        Ok(planes) => match assemble_planes(alloc, job, planes, &opened.names) {
-            Ok(made) => Ok(made),
-            Err(common_error) => Err(error_at(page, common_error)),
-        },
-        Err(error) => Err(error),
+    let planes = read_images(alloc, tray, page, opened.inputs.as_slice())?;
+    match assemble_planes(alloc, job, planes, &opened.names) {
+        Ok(made) => Ok(made),
+        Err(common_error) => Err(error_at(page, common_error)),
     }
 }

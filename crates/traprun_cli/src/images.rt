@@ -38,10 +38,8 @@ pub(crate) fn expect_end<T: Tray>(
     ensures { ExpectsEnd pages (map (λ file. file.now) inputs.now) (T.state tray.old)
         (T.state tray.new) result }
 {
-    match look_through(alloc, tray, inputs, &Ends { pages }) {
-        Ok(_) => Ok(()),
-        Err(error) => Err(error),
-    }
+    look_through(alloc, tray, inputs, &Ends { pages })?;
+    Ok(())
 }
 
 // Reads the plane of a page's image in each file.

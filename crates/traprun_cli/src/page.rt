@@ -34,10 +34,8 @@ pub(crate) fn trap_one<H: Threads + Sync, T: Tray, R: Rack, G: Gate + Sync>(
         StepsPage (sources_of order) (targets_of order) opened.now.job page (T.state tray.old)
         (T.state tray.new) (R.state rack.old) (R.state rack.new) result }
 {
-    match gather_page(alloc, opened, page, tray) {
-        Ok(made) => put_page(rt, alloc, opened.order, page, &made, rack, gate),
-        Err(error) => Err(error),
-    }
+    let made = gather_page(alloc, opened, page, tray)?;
+    put_page(rt, alloc, opened.order, page, &made, rack, gate)
 }
 
 // Traps a page and writes its files, each to its name followed by the page's number.

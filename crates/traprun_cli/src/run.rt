@@ -69,10 +69,8 @@ fn trap_job<H: Threads + Sync, T: Tray, R: Rack, G: Gate + Sync>(
         RunsFrom (sources_of meant) (targets_of meant) opened.now.job (T.state tray.old)
         (T.state tray.new) (R.state rack.old) (R.state rack.new) result }
 {
-    match trap_pages(rt, alloc, opened, tray, rack, gate) {
-        Ok(()) => expect_end(alloc, tray, opened.job.count(), opened.inputs.as_slice()),
-        Err(error) => Err(error),
-    }
+    trap_pages(rt, alloc, opened, tray, rack, gate)?;
+    expect_end(alloc, tray, opened.job.count(), opened.inputs.as_slice())
 }
 
 // Traps all pages of the job, in their order.

@@ -2,30 +2,31 @@ ghost use Rattle.std.specs.Prelude.{◌≡◌, ◌++◌, ◌≤◌, length, deci
 ghost use Rattle.common_errors.specs.Lines.{line};
 ghost use Rattle.traprun_cli.specs.Errors.{RefusesRun, line_of_error};
 
-use crate::error::{TraprunError, error_status};
-use common_errors::fault_line::{fault_line, numbered_line};
+use crate::error::TraprunError;
 use common_errors::line::Line;
 use common_errors::telling::tell_line;
 use outside::rack::Rack;
 
-/// Prints the line of a stop and returns its status, whether or not the line could be printed.
+/// Prints the line of an error and returns its status, whether or not the line could be printed.
 pub fn refuse_run<R: Rack>(rack: &mut R, error: &TraprunError) -> u8
     ensures { RefusesRun error.now (R.state rack.old) (R.state rack.new) result }
 {
-    tell_line(rack, &error_line(error));
-    error_status(error)
+    tell_line(rack, &error.line());
+    error.exit_status()
 }
 
-/// The line that is printed for a stop, its LF included. The form is this project's own.
-pub fn error_line(error: &TraprunError) -> Line
-    ensures { result ≡ line_of_error error.now }
-{
-    match error {
-        TraprunError::Whole(common_error) => fault_line(common_error),
-        TraprunError::TooManyPages(at) => number_line(b"run: TooManyPages at ", *at, b""),
-        TraprunError::AtPage(page, common_error) => numbered_line(*page, common_error),
-        TraprunError::Ends(page, plate) => ends_line(*page, *plate),
-        TraprunError::Extra(plate) => number_line(b"run: plate ", *plate, b": Extra"),
+impl TraprunError {
+    /// The line that is printed for this error, its LF included. The form is this project's own.
+    pub fn line(&self) -> Line
+        ensures { result ≡ line_of_error self.now }
+    {
+        match self {
+            TraprunError::Whole(common_error) => common_error.line(),
+            TraprunError::TooManyPages(at) => number_line(b"run: TooManyPages at ", *at, b""),
+            TraprunError::AtPage(page, common_error) => common_error.numbered_line(*page),
+            TraprunError::Ends(page, plate) => ends_line(*page, *plate),
+            TraprunError::Extra(plate) => number_line(b"run: plate ", *plate, b": Extra"),
+        }
     }
 }
 

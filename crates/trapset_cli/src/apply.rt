@@ -32,10 +32,8 @@ pub(crate) fn carry_out_apply<T: Tray, R: Rack>(
     let Ok(outputs) = copy_outputs(alloc, command.plates) else {
         return Err(TrapsetError::Page(CommonError::Memory));
     };
-    match patched_planes(alloc, command, tray) {
-        Ok(planes) => put_plates(rack, outputs.as_slice(), planes),
-        Err(reason) => Err(reason),
-    }
+    let planes = patched_planes(alloc, command, tray)?;
+    put_plates(rack, outputs.as_slice(), planes)
 }
 
 fn put_plates<R: Rack>(

@@ -32,12 +32,13 @@ use sheet_files::judging::judge_sheet;
 use sheet_files::laws::sheet_is_reread;
 use sheet_files::outcome::{SheetOutcome, outcome_of};
 use sheet_files::planning::PlannedSheet;
-use sheet_files::streaming::stream;
+use sheet_files::streaming::{SheetNames, stream};
 use sheet_files::telling::refuse_sheet;
 use sheet_files::windows::rulers_for;
 use sheet_files::writing::write_sheet;
 use sheet_geometry::budget::Budget;
 use sheet_geometry::plan::{Plan, Rulers};
+use sheet_stream::parts::PlateNames;
 use std::alloc::Global;
 use std::thread::Threads;
 
@@ -110,10 +111,8 @@ fn carry_on<H: Threads + Sync, T: Tray + Send, R: Rack>(
 {
     no_change();
     sheet_is_reread();
-    match judge(rt, alloc, order, budget, inputs, trays) {
-        Ok(planned) => put_planned(rt, alloc, order, budget, &planned, inputs, trays, racks),
-        Err(error) => Err(error),
-    }
+    let planned = judge(rt, alloc, order, budget, inputs, trays)?;
+    put_planned(rt, alloc, order, budget, &planned, inputs, trays, racks)
 }
 
 // Checks the sheet, and decides how it is trapped.
@@ -181,13 +180,13 @@ fn put_planned<H: Threads + Sync, T: Tray, R: Rack>(
 }
 
 // Does the same for a sheet that streams in strips by these rulers.
-fn put_strips<H: Threads + Sync, T: Tray, R: Rack>(
+fn put_strips<'a, H: Threads + Sync, T: Tray, R: Rack>(
     rt: &H,
     alloc: Global,
-    order: &SheetArgs<'_>,
+    order: &SheetArgs<'a>,
     outline: &PageParts,
     rulers: &Rulers,
-    inputs: &[&str],
+    inputs: &'a [&'a str],
     trays: &mut [T],
     racks: &mut [R],
 ) -> Result<(), TrapsheetError>
@@ -198,25 +197,23 @@ fn put_strips<H: Threads + Sync, T: Tray, R: Rack>(
     requires inputs { length inputs.now ≡ plates outline.now }
     requires count { length order.now.plates.now ≡ plates outline.now }
     ensures { let target = targets_of (order_in order.now) in
-        let course = course_of (map (λ file. file.now) inputs.now) target.outputs (map T.state trays.old) (map R.state racks.old) in
+        let course = course_of (map (λ file. file.now) inputs.now) target.outputs (map T.state
+        trays.old) (map R.state racks.old) in
         StreamsOut course target.report outline.now (map T.state trays.new) (map R.state racks.new)
         result }
 {
     let Ok(outputs) = plate_outputs(alloc, order.plates) else {
         return Err(TrapsheetError::Common(CommonError::Memory));
     };
-    stream(
-        rt,
-        alloc,
-        trays,
-        racks,
-        inputs,
-        outputs.as_slice(),
-        order.report,
-        order.workers,
-        outline,
-        rulers,
-    )
+    let names = SheetNames {
+        plates: PlateNames {
+            inputs,
+            outputs: outputs.as_slice(),
+        },
+        report: order.report,
+    };
+    let workers = order.workers;
+    stream(rt, alloc, trays, racks, &names, workers, outline, rulers)
 }
 
 // Does the same for a sheet without strips of one height: all of its rows are in memory.
@@ -241,10 +238,8 @@ fn put_whole<H: Threads + Sync, T: Tray, R: Rack>(
         planned.now.outline (map T.state trays.old) (map T.state trays.new)
         (map R.state racks.old) (map R.state racks.new) result }
 {
-    match hold(alloc, trays, inputs, &planned.outline) {
-        Ok(parts) => put_out(rt, alloc, order, parts, planned.plan, racks),
-        Err(error) => Err(error),
-    }
+    let parts = hold(alloc, trays, inputs, &planned.outline)?;
+    put_out(rt, alloc, order, parts, planned.plan, racks)
 }
 
 // Traps a sheet and writes its files. All memory is allocated before the first file is created.

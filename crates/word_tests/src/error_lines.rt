@@ -1,5 +1,4 @@
-use common_errors::common::{CommonError, status};
-use common_errors::fault_line::fault_line;
+use common_errors::common::CommonError;
 use page_model::page::PageFault;
 use pgm_plates::plate::PlateFault;
 use ps_tokens::faults::{FaultKind, JobFault};
@@ -65,7 +64,7 @@ const TABLE: [(CommonError, u8, &str); 12] = [
 #[test]
 fn each_error_tells_its_line(rt: HostRuntime) {
     for (error, number, line) in TABLE.iter() {
-        assert_eq!(rt; fault_line(error).as_slice(), line.as_bytes());
-        assert_eq!(rt; status(error), *number);
+        assert_eq!(rt; error.line().as_slice(), line.as_bytes());
+        assert_eq!(rt; error.exit_status(), *number);
     }
 }

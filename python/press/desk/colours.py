@@ -6,6 +6,7 @@ Colours are packed as the browser's canvas wants them: red, green, blue and opac
 from __future__ import annotations
 
 from collections.abc import Sequence
+from functools import lru_cache
 from typing import Any
 
 import numpy as np
@@ -26,6 +27,11 @@ DIFFERENT = OPAQUE | np.uint32(0x5B00C2)
 """What differs, or is too much: a red that no process ink has."""
 GAP = OPAQUE | np.uint32(0x3CE600)
 """A gap: a green that no inks over each other have."""
+PIXELS_AT_ONCE = 1 << 16
+"""So many pixels are painted at once: what is computed of them stays in the processor's cache."""
+NO_INK = np.full(1, 255, np.uint8)
+MOST_TABLES = 16
+"""Tables of a megabyte each for two inks over each other."""
 TOO_MUCH = 300
 """The sum of tints in per cent above which the map of ink marks a place."""
 PALEST, PALE_RANGE = 205, 50
@@ -42,14 +48,24 @@ def packed_light(light: tuple[int, int, int]) -> np.uint32:
     return np.uint32(light[0] | light[1] << 8 | light[2] << 16) | OPAQUE
 
 
+@lru_cache(MOST_TABLES)
+def shares_of(*lights: tuple[int, int, int]) -> NDArray[np.float32]:
+    """What share of red, green, blue and opacity one or two inks over each other leave, by the tint of the first
+    times 256 and that of the second, of which 255 is no ink."""
+    coverage = 1 - np.arange(256, dtype=np.float32) / 255
+    shares = np.ones((2, 256, 4), np.float32)
+    for k, light in enumerate(lights):
+        for channel in range(3):
+            shares[k, :, channel] = 1 - coverage * (1 - light[channel] / 255)
+    return np.asarray((shares[0][:, None] * shares[1][None]).reshape(65_536, 4))
+
+
 class Inks:
     """The colours of a page's inks: what light full ink lets through, as red, green and blue of 0 to 255."""
 
     def __init__(self, lights: Sequence[tuple[int, int, int]], seen: Sequence[bool],
                  soft: SoftProof | None = None) -> None:
         self.lights, self.seen, self.soft = list(lights), list(seen), soft
-        coverage = 1 - np.arange(256, dtype=np.float32) / 255
-        self.shares = [[1 - coverage * (1 - channel / 255) for channel in light] for light in self.lights]
 
     def paint(self, planes: Sequence[Tints], shown: int) -> Pixels:
         """The inks of the plates whose bit is set in `shown`, over each other; planes of any one shape."""
@@ -63,16 +79,24 @@ class Inks:
             starts[1:] |= flat[k][1:] != flat[k][:-1]
         at = np.flatnonzero(starts)
         if 3 * at.size > starts.size:  # a photograph: equal pixels do not follow each other
-            at = np.arange(starts.size)
-        light = np.full((3, at.size), 255, np.float32)
-        for k in used:
-            tints = flat[k][at]
-            for channel in range(3):
-                light[channel] *= self.shares[k][channel].take(tints)
-        pixels = packed(*(light + np.float32(0.5)).astype(np.uint32))
-        if at.size < starts.size:
-            pixels = np.repeat(pixels, np.diff(at, append=starts.size))
-        return np.asarray(pixels.reshape(shape))
+            return np.asarray(self._light(flat, used).reshape(shape))
+        pixels = self._light([plane[at] for plane in flat], used)
+        return np.asarray(np.repeat(pixels, np.diff(at, append=starts.size)).reshape(shape))
+
+    def _light(self, flat: Sequence[Tints], used: Sequence[int]) -> Pixels:
+        """The light that pixels send back, two inks at a time by a table for both."""
+        pairs = sorted({k // 2 * 2 for k in used})
+        tables = [shares_of(*self.lights[first:first + 2]) for first in pairs]
+        out = np.full(flat[0].size, 0xFFFFFFFF, np.uint32)
+        for start in range(0, out.size if pairs else 0, PIXELS_AT_ONCE):
+            part = slice(start, start + PIXELS_AT_ONCE)
+            light = np.full(1, 255, np.float32)
+            for first, table in zip(pairs, tables):
+                upper, lower = (flat[k][part] if k in used else NO_INK for k in (first, first + 1))
+                both = np.left_shift(upper, 8, dtype=np.uint16) | lower
+                light = light * np.take(table, both, axis=0, mode="clip")
+            out[part] = (light + np.float32(0.5)).astype(np.uint8).view(np.uint32).ravel()
+        return out
 
     def picture(self, mode: str, planes: Sequence[Tints], shown: int, soft: bool) -> Pixels:
         """The plates as inks over each other, by the press's profile if that is asked for and set; or how much ink

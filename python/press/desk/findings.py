@@ -7,6 +7,7 @@ import re
 from collections.abc import Iterable, Sequence
 from typing import Any
 
+from press import tools
 from press.folder import WARNINGS, PageFolder, read_layout, read_text
 from press.rects import Rect
 
@@ -23,8 +24,9 @@ def findings_of(page: PageFolder, zones: Sequence[dict[str, Any]]) -> list[dict[
     pixels. `zones` are the job's zones as browsers get them."""
     found = []
     for line in read_text(page.path, WARNINGS).splitlines():
-        # A browser need not know where the folder lies.
-        parts = LINE.fullmatch(line.strip().replace(f"{os.path.dirname(page.path)}{os.sep}", ""))
+        # A browser need not know where the folders lie.
+        text = line.strip().replace(f"{os.path.dirname(page.path)}{os.sep}", "").replace(f"{tools.TOP}{os.sep}", "")
+        parts = LINE.fullmatch(text)
         if parts:
             level, kind, text = parts.groups()
             found.append({"level": level, "kind": kind, "text": text, "places": places_of(page, kind, text, zones)})

@@ -11,18 +11,19 @@ from __future__ import annotations
 
 import json
 import re
-from collections.abc import Mapping, Sequence
+from collections.abc import Iterable, Mapping, Sequence
 from dataclasses import dataclass, field, fields, replace
 
-from press.job_language import KEYS, SCALE, Parameters, Point, Subpath, in_force, ten_thousandths
+from press.job_language import KEYS, SCALE, Parameters, Point, Subpath, ten_thousandths
 from press.keepaway import said_in
 
 from .job_sections import IMAGES, OFF, THIN, TRIM, line_start, section_of, sections, set_aside, tail_start, taken_back
-from .reading import read_job, statements
+from .reading import in_force, read_job, statements
 
 BEGIN, ENDED = "% press desk: {}\n", "% press desk: end of {}\n"
 PAGE, BELOW, ABOVE = "the page", "zones", "zones over images"
 BLOCKS = {TRIM: "the whole page in place of its box", THIN: "thin strokes", IMAGES: "images are trapped"}
+NEW_IMAGES = "images"
 WHOLE_PAGE = "newpath -1 -1 moveto 20000 0 rlineto 0 20000 rlineto -20000 0 rlineto settrapzone  % the whole page\n"
 RESTORE = "% What follows has the parameters that it had:\n"
 PATH_OPERATORS = ("newpath", "moveto", "settrapzone", "showpage")
@@ -52,8 +53,9 @@ class EditedZone:
 @dataclass(frozen=True)
 class Edits:
     """All that the editor changes in one job. `off` has the rules that are switched off; `thin` has the zones of thin
-    strokes that replace the job's own, as statements, or None if those stay. `keepaway` is how far inks are drawn back,
-    in ten-thousandths of a point: 0 is off, and None leaves it to the page."""
+    strokes that replace the job's own, as statements, or None if those stay; `images` has those of images in the same
+    way. `keepaway` is how far inks are drawn back, in ten-thousandths of a point: 0 is off, and None leaves it to the
+    page."""
 
     settings: Settings = field(default_factory=dict)
     inks: Mapping[str, EditedInk] = field(default_factory=dict)
@@ -61,28 +63,38 @@ class Edits:
     off: frozenset[str] = frozenset()
     thin: str | None = None
     keepaway: int | None = None
+    images: str | None = None
 
     def changes_zones(self) -> bool:
-        """Whether anything below the zones of thin strokes changes."""
-        return replace(self, thin=None, keepaway=None) != Edits()
+        """Whether anything but zones that follow from it and keepaway changes."""
+        return replace(self, thin=None, images=None, keepaway=None) != Edits()
 
 
 def apply_edits(original: bytes, edits: Edits) -> bytes:
     """The job with the editor's blocks."""
-    text = below_thin(original, edits)
+    text = below_images(original, edits)
     above = [zone for zone in edits.zones if zone.over_images]
-    for kind, new in ((THIN, edits.thin), (IMAGES, None)):
-        if kind in edits.off or new is not None:
-            text = _replaced(text, kind, "" if kind in edits.off else new or "")
+    if IMAGES in edits.off:
+        text = _replaced(text, IMAGES, BLOCKS[IMAGES], "")
+    elif edits.images is not None:
+        text = _replaced(text, IMAGES, NEW_IMAGES, edits.images)
     end = line_start(text, [one for one in statements(text) if one.operator == "showpage"][-1].start)
     return _insert(text, end, _block(ABOVE, _zones_block(above, text, end)))
+
+
+def below_images(original: bytes, edits: Edits) -> bytes:
+    """The job with all that lies below its zones of images."""
+    text = below_thin(original, edits)
+    if THIN in edits.off or edits.thin is not None:
+        text = _replaced(text, THIN, BLOCKS[THIN], "" if THIN in edits.off else edits.thin or "")
+    return text
 
 
 def below_thin(original: bytes, edits: Edits) -> bytes:
     """The job with all that lies below the zones of thin strokes."""
     text = _insert(original, _first_path(original), _block(PAGE, _page_block(edits)))
     if TRIM in edits.off:
-        text = _replaced(text, TRIM, WHOLE_PAGE)
+        text = _replaced(text, TRIM, BLOCKS[TRIM], WHOLE_PAGE)
     below, at = [zone for zone in edits.zones if not zone.over_images], tail_start(text)
     return _insert(text, at, _block(BELOW, _zones_block(below, text, at)))
 
@@ -90,7 +102,7 @@ def below_thin(original: bytes, edits: Edits) -> bytes:
 def take_apart(text: bytes) -> tuple[bytes, Edits]:
     """The job without the editor's blocks, and what they say."""
     original, found = text, {}
-    for name in (ABOVE, *(BLOCKS[kind] for kind in (IMAGES, THIN)), BELOW, BLOCKS[TRIM], PAGE):
+    for name in (ABOVE, BLOCKS[IMAGES], NEW_IMAGES, BLOCKS[THIN], BELOW, BLOCKS[TRIM], PAGE):
         pattern = re.escape(BEGIN.format(name)) + "(.*?)" + re.escape(ENDED.format(name))
         block = re.search(pattern.encode(), original, re.S)
         if block:
@@ -100,17 +112,18 @@ def take_apart(text: bytes) -> tuple[bytes, Edits]:
     zones = [*_read_zones(found.get(BELOW, ""), False), *_read_zones(found.get(ABOVE, ""), True)]
     thin = _live_lines(found.get(BLOCKS[THIN]))
     off = {kind for kind in (TRIM, IMAGES) if BLOCKS[kind] in found} | ({THIN} if thin == "" else set())
-    edits = Edits(settings, inks, tuple(zones), frozenset(off), thin or None, keepaway)
+    edits = Edits(settings, inks, tuple(zones), frozenset(off), thin or None, keepaway,
+                  _live_lines(found.get(NEW_IMAGES)))
     try:
         return (original, edits) if apply_edits(original, edits) == text else (text, Edits())
     except ValueError:
         return text, Edits()
 
 
-def rules_of(original: bytes, edits: Edits, has_thin: bool) -> dict[str, bool]:
-    """The rules of the press room that a job has, and whether each is on. `has_thin` says that thin strokes are known,
-    so that they can have zones though the job has none."""
-    there = {kind for kind in BLOCKS if section_of(original, kind)} | ({THIN} if has_thin else set())
+def rules_of(original: bytes, edits: Edits, known: Iterable[str]) -> dict[str, bool]:
+    """The rules of the press room that a job has, and whether each is on. `known` has those of which the places are
+    known, so that they can have zones though the job has none."""
+    there = {kind for kind in BLOCKS if section_of(original, kind)} | set(known)
     return {kind: kind not in edits.off for kind in BLOCKS if kind in there}
 
 
@@ -153,16 +166,23 @@ def zone_statements(zone: EditedZone, base: Parameters) -> str:
     return f"% Zone {json.dumps(zone.name)}:\n{dictionary(all_of(base))}{own}{path}"
 
 
-def _replaced(text: bytes, kind: str, new: str) -> bytes:
-    """The job with other statements in place of a part's, which stays as a comment. What follows finds the parameters
-    that it had after the part."""
-    found = section_of(text, kind)
-    start, end = (found.start, found.end) if found else (thin_place(text),) * 2
+def _replaced(text: bytes, kind: str, name: str, new: str) -> bytes:
+    """The job with other statements in place of a part's, which stays as a comment in a block of this name. What
+    follows finds the parameters that it had after the part."""
+    start, end = place_of(text, kind)
     restore = RESTORE + dictionary(all_of(in_force(text, end)))
-    block = f"{BEGIN.format(BLOCKS[kind])}".encode() + set_aside(text[start:end])
+    block = BEGIN.format(name).encode() + set_aside(text[start:end])
     if text[start:end] and not text[start:end].endswith(b"\n"):
         raise ValueError("the part does not end with its line")
-    return text[:start] + block + (new + restore + ENDED.format(BLOCKS[kind])).encode() + text[end:]
+    return text[:start] + block + (new + restore + ENDED.format(name)).encode() + text[end:]
+
+
+def place_of(text: bytes, kind: str) -> tuple[int, int]:
+    """Where the zones of a kind begin and end; or, if there are none, where they go."""
+    found = section_of(text, kind)
+    if found:
+        return found.start, found.end
+    return (sections(text)[-1].start if kind == IMAGES else thin_place(text),) * 2
 
 
 def thin_place(text: bytes) -> int:

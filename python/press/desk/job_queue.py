@@ -216,7 +216,8 @@ class Queue:
     def _heard(self, job: Job, line: bytes, complaints: list[str]) -> None:
         """A line of progress, a finding, or a complaint."""
         text = clean(line.decode("utf-8", "replace").strip())
-        text = re.sub(r"^press-[a-z]+: ", "", text).replace(f"{job.folder}{os.sep}", "").removeprefix(f"{job.source}: ")
+        text = re.sub(r"^press-[a-z]+: ", "", text).replace(f"{job.folder}{os.sep}", "").replace(
+            f"{tools.TOP}{os.sep}", "").removeprefix(f"{job.source}: ")
         step, finding = PAGE_LINE.fullmatch(text), FINDING.fullmatch(text)
         with self.wake:
             if step:

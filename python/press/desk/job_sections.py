@@ -23,7 +23,7 @@ MARKS: Sequence[tuple[str, bytes]] = (
     (LAYER, rb"% The layer .* \(--layer\):"),
     # Zones that were drawn in the editor are the owner's; what a rule set aside is made anew with the rule's zones.
     (OWNER, rb"% press desk: zones(?: over images)?"),
-    (ASIDE, rb"% press desk: (?:thin strokes|images are trapped|the whole page in place of its box)"),
+    (ASIDE, rb"% press desk: (?:thin strokes|images(?: are trapped)?|the whole page in place of its box)"),
     (THIN, rb"% Thin strokes \(.*:"), (IMAGES, rb"% Within images nothing is trapped.*:"),
     (PAIR, rb"% .* and .* \((?:not trapped|[\d.]+ times the trap width), .*\):"))
 MARK = re.compile(b"^(?:" + b"|".join(b"(%s)" % mark for _, mark in MARKS) + b")$", re.M)

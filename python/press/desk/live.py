@@ -6,10 +6,10 @@ The window is cut into bands for a few threads of their own, which the work on w
 from __future__ import annotations
 
 import math
-from collections.abc import Sequence
+from collections.abc import Callable, Sequence
 from concurrent.futures import ThreadPoolExecutor
 from dataclasses import dataclass
-from typing import Any
+from typing import Any, TypeVar
 
 import numpy as np
 from numpy.typing import NDArray
@@ -17,6 +17,7 @@ from numpy.typing import NDArray
 import trapping
 
 Plane = NDArray[Any]
+Taken = TypeVar("Taken")
 
 THREADS = 4
 SMALLEST_BAND = 64
@@ -40,14 +41,24 @@ def corner_step(resolution: int) -> int:
 
 @dataclass(frozen=True)
 class Wanted:
-    """A part that is being trapped: the job with its halo, the plates that it begins from, where the part lies, and the
-    planes that the threads fill."""
+    """A part that is being trapped: the job with its halo, the plates that it begins from, and where the part lies."""
 
     job: bytes
     halo: int
     planes: Sequence[Plane]
-    place: tuple[int, int, int]
-    out: Sequence[Plane]
+    left: int
+    top: int
+    width: int
+    height: int
+
+
+@dataclass(frozen=True)
+class Band:
+    """Some rows of a part that are trapped, of all plates; 0 is full ink."""
+
+    first: int
+    last: int
+    planes: Sequence[Plane]
 
 
 class LivePage:
@@ -60,10 +71,10 @@ class LivePage:
         self.height, self.width = self.planes[0].shape
         self.kind = np.uint8 if maxval < 256 else np.uint16
 
-    def tints(self, planes: Sequence[Plane], rows: slice, columns: slice) -> NDArray[Any]:
-        """A part of the inked plates, plates × rows × columns, with 0 for no ink."""
-        out = np.empty((len(self.inked), rows.stop - rows.start, columns.stop - columns.start), self.kind)
-        for place, k in enumerate(self.inked):
+    def tints(self, planes: Sequence[Plane], rows: slice, columns: slice, inked: Sequence[int]) -> NDArray[Any]:
+        """A part of some plates, plates × rows × columns, with 0 for no ink."""
+        out = np.empty((len(inked), rows.stop - rows.start, columns.stop - columns.start), self.kind)
+        for place, k in enumerate(inked):
             np.subtract(self.maxval, planes[k][rows, columns], out=out[place], casting="unsafe")
         return out
 
@@ -72,29 +83,48 @@ class LivePage:
 
         Raises trapping.Refusal if the job has a fault.
         """
-        planes = self.planes
-        if not self.inked or not width or not height:
-            return [np.array(plane[top:top + height, left:left + width], self.kind) for plane in planes]
-        # The threads fill the plates with ink.
-        out = [np.empty((height, width), self.kind) if k in self.inked
-               else np.array(plane[top:top + height, left:left + width], self.kind) for k, plane in enumerate(planes)]
-        wanted = Wanted(job, trapping.halo(job), planes, (left, top, width), out)
-        bands = max(1, min(THREADS, height // SMALLEST_BAND))
-        cuts = [height * k // bands for k in range(bands + 1)]
-        for _ in _POOL.map(lambda first, last: self._trap_band(wanted, first, last), cuts[:-1], cuts[1:]):
-            pass
-        return out
+        bands = self.in_bands(job, (left, top, width, height), lambda band: band.planes)
+        return [np.concatenate(rows) for rows in zip(*bands)]
 
-    def _trap_band(self, wanted: Wanted, first: int, last: int) -> None:
-        """Traps some rows of a part and puts them into its planes."""
-        (left, top, width), halo = wanted.place, wanted.halo
+    def check(self, job: bytes) -> None:
+        """Has the engine trap one pixel by a job, with all inks. Raises trapping.Refusal if it does not accept it."""
+        side = trapping.halo(job) + 1
+        y0 = self.height - max(0, self.height - side) // self.step * self.step
+        window = self.tints(self.planes, slice(0, min(y0, self.height)), slice(0, min(side, self.width)), self.inked)
+        if self.inked:
+            trapping.trap_window(job, [self.names[k] for k in self.inked], window, sheet=(self.width, self.height),
+                                 at=(0, 0), core=(0, 0, 1, 1), maxval=self.maxval)
+
+    def in_bands(self, job: bytes, part: tuple[int, int, int, int], take: Callable[[Band], Taken]) -> list[Taken]:
+        """What `take` makes of each band of a part of the page, in their order; it is called by several threads at
+        once. Raises trapping.Refusal if the job has a fault."""
+        wanted = Wanted(job, trapping.halo(job), self.planes, *part)
+        bands = max(1, min(THREADS, wanted.height // SMALLEST_BAND))
+        cuts = [wanted.height * k // bands for k in range(bands + 1)]
+        return list(_POOL.map(lambda first, last: take(self._trapped_band(wanted, first, last)), cuts[:-1], cuts[1:]))
+
+    def _trapped_band(self, wanted: Wanted, first: int, last: int) -> Band:
+        """Traps some rows of a part."""
+        left, top, width, halo = wanted.left, wanted.top + first, wanted.width, wanted.halo
         x0, x1 = max(0, left - halo) // self.step * self.step, min(self.width, left + width + halo)
-        y0 = max(0, top + first - halo)
-        y1 = self.height - max(0, self.height - (top + last + halo)) // self.step * self.step
-        window = self.tints(wanted.planes, slice(y0, y1), slice(x0, x1))
-        core = left - x0, top + first - y0, width, last - first
-        trapping.trap_window(wanted.job, [self.names[k] for k in self.inked], window, sheet=(self.width, self.height),
+        y0 = max(0, top - halo)
+        y1 = self.height - max(0, self.height - (top + last - first + halo)) // self.step * self.step
+        rows, columns = slice(top, top + last - first), slice(left, left + width)
+        planes = [np.asarray(plane[rows, columns], self.kind) for plane in wanted.planes]
+        inked = [k for k in self.inked if is_inked(wanted.planes[k][y0:y1, x0:x1], self.maxval)]
+        if not inked or not planes[0].size:
+            return Band(first, last, planes)
+        # A plate without ink in the window changes no trap there.
+        window = self.tints(wanted.planes, slice(y0, y1), slice(x0, x1), inked)
+        core = left - x0, top - y0, width, last - first
+        trapping.trap_window(wanted.job, [self.names[k] for k in inked], window, sheet=(self.width, self.height),
                              at=(x0, y0), core=core, maxval=self.maxval)
         made = window[:, core[1]:core[1] + core[3], core[0]:core[0] + width]
-        for place, k in enumerate(self.inked):
-            np.subtract(self.maxval, made[place], out=wanted.out[k][first:last], casting="unsafe")
+        for place, k in enumerate(inked):
+            planes[k] = np.subtract(self.maxval, made[place], dtype=self.kind, casting="unsafe")
+        return Band(first, last, planes)
+
+
+def is_inked(plane: Plane, maxval: int) -> bool:
+    """Whether a plate has ink in a part of it."""
+    return bool(plane.size) and int(plane.min()) < maxval

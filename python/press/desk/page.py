@@ -10,20 +10,22 @@ from pathlib import Path
 from typing import Any
 
 from press import folder as folders, keepaway
+from press.errors import PressError
 from press.files import whole_file
 from press.folder import PageFolder
 from press.job_language import KEYS, SCALE, Job
 from press.names import readable
+from press.origins import Origins
 from press.picture import light_of
 from press.tables import is_seen
-from press.zones_anew import Strokes, composed, first_strokes, rule_of
+from press.zones_anew import Strokes, composed, composed_images, first_strokes, margin_of, origins_of, rule_of
 
 from .colours import Inks, soft_proof
 from .drawn_back import DrawnBack, LastRun, begun_planes
 from .edits_json import BadRequest, edits_of, most_keepaway, settings_of
 from .history import EDIT, FOLLOW, REDO, UNDO, History
-from .job_edits import Edits, apply_edits, below_thin, pixels_of_polygon, rules_of, take_apart
-from .job_sections import THIN, zone_names
+from .job_edits import Edits, apply_edits, pixels_of_polygon, rules_of, take_apart
+from .job_sections import IMAGES, THIN, zone_names
 from .kept import Kept
 from .live import InkNames, LivePage
 from .pyramid import Pyramid, open_pyramid, plates_key
@@ -58,7 +60,8 @@ class DeskPage:
         self.live = LivePage(begun_planes(self.folder), self.maxval, names, self.resolution)
         self._take(Path(self.folder.file(folders.JOB)).read_bytes())
         self.last = LastRun.of(self.folder, None if self.kept.is_behind(self.text) else self.drawn_back)
-        self.first = first_strokes(self.folder, self.original)
+        self.origins = self._origins()
+        self.first = first_strokes(self.folder, self._rule(self.original, Edits()))
         self.strokes = self.kept.strokes() or self.first
         self.history = self._history()
         # A change has to be made on this version or on a later one: what only moves thin strokes is no conflict.
@@ -75,6 +78,14 @@ class DeskPage:
         self.original, self.edits = take_apart(text)
         self.job: Job = read_job(text)
         self.drawn_back = DrawnBack.of(self.folder, text, self.job)
+
+    def _origins(self) -> Origins | None:
+        """What the press room's zones were made of, if the page has images and says it."""
+        try:
+            found = origins_of(self.folder)
+        except PressError:
+            return None
+        return found if found.info and found.images else None
 
     def _history(self) -> History:
         """The versions that an earlier server kept. If somebody else changed the editor's part of the job since, that
@@ -124,16 +135,26 @@ class DeskPage:
         return edits_of(said, read_job(self.original), self.resolution, self.height)
 
     def _edited(self, edits: Edits) -> bytes:
-        """The job by edits. Zones of thin strokes are composed anew if anything below them changes."""
-        plain, thin = replace(edits, thin=None), None
+        """The job by edits. Zones of thin strokes are composed anew if anything below them changes, and those of images
+        if traps reach farther into them, or less far."""
+        plain = replace(edits, thin=None, images=None)
         try:
             if self.first and self.strokes and THIN not in edits.off and plain.changes_zones():
-                rule = rule_of(read_job(below_thin(self.original, plain)), plain)
+                rule = self._rule(apply_edits(self.original, plain), plain)
                 strokes = self.first if self.first.rule == rule else self.strokes
-                thin = composed(self.original, plain, strokes.places, self.size) or None
-            return apply_edits(self.original, replace(plain, thin=thin))
+                plain = replace(plain, thin=composed(self.original, plain, strokes.places, self.size) or None)
+            if self.origins and plain.changes_zones():
+                plain = replace(plain, images=composed_images(self.original, plain, self.origins, self.resolution))
+            return apply_edits(self.original, plain)
         except (KeyError, TypeError, ValueError, AttributeError) as fault:
             raise BadRequest(f"these are no edits: {fault}") from fault
+
+    def rule(self) -> str:
+        """What the places of thin strokes depend on, by the newest job."""
+        return self._rule(self.text, self.edits)
+
+    def _rule(self, text: bytes, edits: Edits) -> str:
+        return rule_of(read_job(text), edits, margin_of(text, self.resolution) if self.origins else None)
 
     def other_text(self, other: Mapping[str, Any]) -> bytes:
         """The job of an earlier version, or by other settings. Raises BadRequest if there is none."""
@@ -151,7 +172,7 @@ class DeskPage:
 
     def _write(self, text: bytes, kind: str) -> None:
         """Writes a job, if the engine accepts it for this page: one pixel is trapped by it."""
-        self.live.trapped(text, 0, 0, 1, 1)
+        self.live.check(text)
         DrawnBack.of(self.folder, text, read_job(text))
         if not self.kept.has_record():
             self.kept.record_trapped(self.text)
@@ -175,7 +196,7 @@ class DeskPage:
         """Whether the zones of thin strokes are those of another rule than the job's."""
         if not self.first or not self.strokes or THIN in self.edits.off or not self.edits.changes_zones():
             return False
-        return rule_of(self.job, self.edits) not in (self.first.rule, self.strokes.rule)
+        return self.rule() not in (self.first.rule, self.strokes.rule)
 
     def take_strokes(self, version: int, strokes: Strokes) -> bool:
         """Takes the places of thin strokes that were found for a version. True if that changes the job, which then has
@@ -224,8 +245,12 @@ class DeskPage:
                     "inks": [self._ink(k) for k in range(len(self.names))], "settings": self._settings(self.job),
                     "edits": self._edits_json(), "jobZones": self._job_zones(),
                     "canSoftProof": self.inks.soft is not None,
-                    "rules": rules_of(self.original, self.edits, self.first is not None),
+                    "rules": rules_of(self.original, self.edits, self._known_rules()),
                     "versions": [{"number": one.number, "time": one.time} for one in self.history.versions]}
+
+    def _known_rules(self) -> list[str]:
+        """The rules of which the places are known."""
+        return [rule for rule, known in ((THIN, self.first), (IMAGES, self.origins)) if known]
 
     def _edits_json(self) -> dict[str, Any]:
         zones = [{"name": zone.name, "settings": dict(zone.settings), "overImages": zone.over_images,

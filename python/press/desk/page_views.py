@@ -18,6 +18,7 @@ from . import why
 from .colours import GAP, png
 from .edits_json import BadRequest
 from .gap_marks import gaps_opened
+from .live import Band
 from .page import DeskPage
 from .pyramid import FIRST_LEVEL, Part, Pyramid, eight_bits
 
@@ -104,6 +105,10 @@ class PageViews:
         """A part at 1:1 by the job as it is now; with `delta` only the pixels that differ from the part before."""
         page = self.page
         self.check(view)
+        if view.delta and not view.shifts and view.mode != "before":
+            found = self._live_changes(view)
+            if found is not None:
+                return Drawn(found)
         most = max((abs(part) for shift in view.shifts or [] for part in shift), default=0)
         x0, y0 = max(0, view.left - most), max(0, view.top - most)
         width = min(page.width, view.left + view.width + most) - x0
@@ -133,6 +138,23 @@ class PageViews:
             changed = [new != old for old, new in zip(before, after)]
             return inks.paint_traps(before, changed, view.inks, view.mode == "difference")
         return inks.picture(view.mode, after, view.inks, view.soft)
+
+    def _live_changes(self, view: View) -> NDArray[np.uint32] | None:
+        """The pixels of a part that traps change, by the job as it is now or by another; None if the page is done. Each
+        band is trapped, compared and painted by a thread of its own."""
+        page = self.page
+        with page.lock:
+            is_done, before, text = page.version == page.shown, page.before, page.text
+        if is_done and not view.other:
+            return None
+        text = page.other_text(view.other) if view.other else text
+
+        def changes(band: Band) -> NDArray[np.uint32]:
+            rows = Part(0, view.left, view.top + band.first, view.width, band.last - band.first)
+            after = [eight_bits(plane, page.maxval) for plane in band.planes]
+            return page.inks.changes(before.part(rows), after, view.inks)
+        bands = page.live.in_bands(text, (view.left, view.top, view.width, view.height), changes)
+        return joined(bands, view.width, view.height)
 
     def _trapped(self, other: Mapping[str, Any], part: tuple[int, int, int, int]) -> list[NDArray[np.uint8]]:
         """A part of the trapped plates as eight bits: of the page if that is done, else trapped now."""
@@ -167,7 +189,7 @@ class PageViews:
         radius = why.window_radius(job)
         left, top = max(0, x - radius), max(0, y - radius)
         right, bottom = min(page.width, x + radius + 1), min(page.height, y + radius + 1)
-        tints = page.live.tints(page.live.planes, slice(top, bottom), slice(left, right))
+        tints = page.live.tints(page.live.planes, slice(top, bottom), slice(left, right), page.inked)
         names = [page.names[k] for k in page.inked]
         window = why.Window(tints, page.maxval, names, job, why.Place(left, top, page.height))
         answer = why.explain(window, (x - left, y - top))
@@ -181,6 +203,14 @@ class PageViews:
 def settings_json(job: Job, zone: int) -> dict[str, Any]:
     """The parameters of a zone, in ten-thousandths."""
     return {key: getattr(job.zones[zone].parameters, name) for key, name in KEYS.items()}
+
+
+def joined(bands: Sequence[NDArray[np.uint32]], width: int, height: int) -> NDArray[np.uint32]:
+    """The changes of bands as those of the whole part: all places, then all colours."""
+    halves = [np.split(one, 2) for one in bands]
+    starts = [height * k // len(bands) * width for k in range(len(bands))]
+    return np.concatenate([*(places + np.uint32(start) for (places, _), start in zip(halves, starts)),
+                           *(colours for _, colours in halves)])
 
 
 def marks_of(before: Pyramid, after: Pyramid) -> Pyramid:

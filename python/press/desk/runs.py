@@ -20,7 +20,7 @@ from pathlib import Path
 from press import engine, tools
 from press.errors import PressError, Status
 from press.settings import Settings
-from press.zones_anew import Strokes, by_width, rule_of
+from press.zones_anew import Strokes, by_width
 
 from .memory import give_back
 from .page import DeskPage
@@ -139,7 +139,7 @@ class PageRun:
     def _find_strokes(self, asked: int, version: int) -> bool:
         """Finds the places of thin strokes for the newest job; whether they move a zone."""
         page = self.page
-        rule = rule_of(page.job, page.edits)
+        rule = page.rule()
         words = [sys.executable, "-B", "-m", "press.desk.find_places", page.folder.path]
         env = {**os.environ, "PYTHONPATH": os.path.join(tools.TOP, "python")}
         with tools.running(words, memory=STROKES_MEMORY, env=env) as child:

@@ -12,6 +12,7 @@ import threading
 from collections import OrderedDict
 from collections.abc import Callable, Mapping
 from dataclasses import dataclass
+from functools import lru_cache
 from pathlib import Path
 from typing import Any
 
@@ -244,8 +245,14 @@ def source_of(job: Path, name: bytes) -> Path | None:
 def presets() -> list[dict[str, Any]]:
     """The presets of the house and of the press room, in the units of the job: `keepaway` is None if it has none."""
     folders = [folder for folder in (house_folder(), PRESETS) if folder]
-    names = sorted({one.stem for folder in folders for one in Path(folder).glob("*.preset")})
-    return [preset_json(name, preset_values(name)) for name in names]
+    files = sorted(one for folder in folders for one in Path(folder).glob("*.preset"))
+    return presets_of(tuple((one.stem, str(one), one.stat().st_mtime_ns) for one in files))
+
+
+@lru_cache(2)
+def presets_of(files: tuple[tuple[str, str, int], ...]) -> list[dict[str, Any]]:
+    """The presets of files, which are read again only if one of them changes: each answer to a change has them."""
+    return [preset_json(name, preset_values(name)) for name in sorted({name for name, *_ in files})]
 
 
 def preset_json(name: str, values: Mapping[str, Value]) -> dict[str, Any]:

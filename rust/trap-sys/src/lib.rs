@@ -3,7 +3,7 @@
 //! crate `trapping` has safe calls.
 #![no_std]
 
-use core::ffi::c_char;
+use core::ffi::{c_char, c_void};
 
 /// What a call returns.
 pub type TrapStatus = u8;
@@ -31,13 +31,31 @@ pub struct TrapPlace {
     pub core_height: u32,
 }
 
-/// Declares functions that trap planes of a type of samples: all of a page; or those of a window, at a place.
+/// An open job, or none: one that the library has read. Only the library writes its fields; a copy is not another open job.
+#[repr(C)]
+#[derive(Debug)]
+pub struct TrapJob {
+    inner: *mut c_void,
+    is_open: u8,
+}
+
+impl TrapJob {
+    /// A job that is not open.
+    pub const fn none() -> TrapJob {
+        TrapJob {
+            inner: core::ptr::null_mut(),
+            is_open: 0,
+        }
+    }
+}
+
+/// Declares functions that trap planes of a type of samples: all of a page; or those of a window, at a place. The job is its bytes, or
+/// open.
 macro_rules! trapping {
-    ($($name:ident($sample:ty $(, $place:ident)?);)*) => {
+    ($($name:ident($sample:ty, ($($job:ident: $type:ty),*) $(, $place:ident)?);)*) => {
         extern "C" {
             $(pub fn $name(
-                job: *const c_char,
-                job_size: usize,
+                $($job: $type,)*
                 names: *const c_char,
                 names_size: usize,
                 samples: *mut $sample,
@@ -56,10 +74,12 @@ macro_rules! trapping {
 }
 
 trapping! {
-    trap_planes8(u8);
-    trap_planes16(u16);
-    trap_window8(u8, place);
-    trap_window16(u16, place);
+    trap_planes8(u8, (job: *const c_char, job_size: usize));
+    trap_planes16(u16, (job: *const c_char, job_size: usize));
+    trap_window8(u8, (job: *const c_char, job_size: usize), place);
+    trap_window16(u16, (job: *const c_char, job_size: usize), place);
+    trap_open_window8(u8, (handle: *mut TrapJob), place);
+    trap_open_window16(u16, (handle: *mut TrapJob), place);
 }
 
 extern "C" {
@@ -71,6 +91,19 @@ extern "C" {
         text_size: usize,
         text_len: *mut usize,
     ) -> TrapStatus;
+
+    pub fn trap_open(
+        job: *const c_char,
+        job_size: usize,
+        handle: *mut TrapJob,
+        text: *mut c_char,
+        text_size: usize,
+        text_len: *mut usize,
+    ) -> TrapStatus;
+
+    pub fn trap_close(handle: *mut TrapJob);
+
+    pub fn trap_open_halo(handle: *mut TrapJob, halo: *mut u32) -> TrapStatus;
 
     pub fn trap_version() -> u32;
 }

@@ -7,6 +7,7 @@
 use std::ffi::c_char;
 use std::fmt;
 
+use trap_sys::TrapJob;
 pub use trap_sys::TrapPlace as Place;
 
 /// How planes lie in the samples: the sides of each in samples, the samples from the start of a row to that of the next, and the
@@ -56,13 +57,20 @@ mod sealed {
 /// A type of samples: `u8` or `u16`.
 pub trait Sample: sealed::Sealed + Sized {
     #[doc(hidden)]
-    fn call(call: &Call<'_>, samples: &mut [Self], place: Option<&Place>, text: &mut Text) -> u8;
+    fn call(call: &mut Call<'_>, samples: &mut [Self], text: &mut Text) -> u8;
+}
+
+/// What a call is given for the job, and for the place of a window.
+enum Source<'a> {
+    Page(&'a [u8]),
+    Window(&'a [u8], &'a Place),
+    Open(&'a mut TrapJob, &'a Place),
 }
 
 /// The arguments of a call but its samples and its text.
 #[doc(hidden)]
 pub struct Call<'a> {
-    job: &'a [u8],
+    source: Source<'a>,
     names: String,
     layout: Layout,
 }
@@ -92,13 +100,12 @@ impl Text {
 
 /// Calls a function of the library for planes: all of a page; or those of a window, at a place.
 macro_rules! trapped {
-    ($function:ident, $call:ident, $samples:ident, $text:ident $(, $place:ident)?) => {
-        // SAFETY: each pointer comes from a slice, with its length; the samples, the text and its length are borrowed
-        // mutably, so nothing else shares memory with them.
+    ($function:ident, ($($job:expr),*), $call:ident, $samples:ident, $text:ident $(, $place:ident)?) => {
+        // SAFETY: each pointer comes from a slice, with its length, or from a reference; the samples, the open job, the text and
+        // its length are borrowed mutably, so nothing else shares memory with them.
         unsafe {
             trap_sys::$function(
-                $call.job.as_ptr().cast(),
-                $call.job.len(),
+                $($job,)*
                 $call.names.as_ptr().cast(),
                 $call.names.len(),
                 $samples.as_mut_ptr(),
@@ -107,7 +114,7 @@ macro_rules! trapped {
                 $call.layout.height,
                 $call.layout.step,
                 $call.layout.maxval,
-                $($place,)?
+                $(*$place as *const Place,)?
                 $text.bytes.as_mut_ptr().cast(),
                 $text.bytes.len(),
                 &mut $text.len,
@@ -117,20 +124,32 @@ macro_rules! trapped {
 }
 
 macro_rules! samples {
-    ($type:ty, $page:ident, $window:ident) => {
+    ($type:ty, $page:ident, $window:ident, $opened:ident) => {
         impl Sample for $type {
-            fn call(call: &Call<'_>, samples: &mut [Self], place: Option<&Place>, text: &mut Text) -> u8 {
-                match place {
-                    None => trapped!($page, call, samples, text),
-                    Some(place) => trapped!($window, call, samples, text, place),
+            fn call(call: &mut Call<'_>, samples: &mut [Self], text: &mut Text) -> u8 {
+                match &mut call.source {
+                    Source::Page(job) => trapped!($page, (job.as_ptr().cast(), job.len()), call, samples, text),
+                    Source::Window(job, place) => {
+                        trapped!(
+                            $window,
+                            (job.as_ptr().cast(), job.len()),
+                            call,
+                            samples,
+                            text,
+                            place
+                        )
+                    }
+                    Source::Open(handle, place) => {
+                        trapped!($opened, (*handle as *mut TrapJob), call, samples, text, place)
+                    }
                 }
             }
         }
     };
 }
 
-samples!(u8, trap_planes8, trap_window8);
-samples!(u16, trap_planes16, trap_window16);
+samples!(u8, trap_planes8, trap_window8, trap_open_window8);
+samples!(u16, trap_planes16, trap_window16, trap_open_window16);
 
 /// The text of a call that is done; or its refusal.
 fn answer(status: u8, text: Text) -> Result<String, Refusal> {
@@ -145,32 +164,26 @@ fn answer(status: u8, text: Text) -> Result<String, Refusal> {
     Err(Refusal { kind, line })
 }
 
-fn trap<S: Sample>(
-    job: &[u8],
-    names: &[&str],
-    samples: &mut [S],
-    layout: Layout,
-    place: Option<&Place>,
-) -> Result<String, Refusal> {
+fn trap<S: Sample>(source: Source<'_>, names: &[&str], samples: &mut [S], layout: Layout) -> Result<String, Refusal> {
     if names.iter().any(|name| name.contains('\n')) {
         return Err(Refusal {
             kind: Kind::Call,
             line: "call: Names".to_owned(),
         });
     }
-    let call = Call {
-        job,
+    let mut call = Call {
+        source,
         names: names.join("\n"),
         layout,
     };
     let mut text = Text::new();
-    let status = S::call(&call, samples, place, &mut text);
+    let status = S::call(&mut call, samples, &mut text);
     answer(status, text)
 }
 
 /// Traps the planes of a page in place, and returns the report (docs/REPORT.md).
 pub fn trap_page<S: Sample>(job: &[u8], names: &[&str], samples: &mut [S], layout: Layout) -> Result<String, Refusal> {
-    trap(job, names, samples, layout, None)
+    trap(Source::Page(job), names, samples, layout)
 }
 
 /// Traps the core of a window of a sheet in place, and returns the core's part of the report. The other samples are unchanged.
@@ -181,7 +194,7 @@ pub fn trap_window<S: Sample>(
     layout: Layout,
     place: &Place,
 ) -> Result<String, Refusal> {
-    trap(job, names, samples, layout, Some(place))
+    trap(Source::Window(job, place), names, samples, layout)
 }
 
 /// The rows and columns that a window needs around its core, on each side that is not a border of the sheet.
@@ -200,6 +213,66 @@ pub fn halo(job: &[u8]) -> Result<u32, Refusal> {
         )
     };
     answer(status, text).map(|_| halo)
+}
+
+/// A job that the library has read, for any number of windows. It is closed when it is dropped. One thread at a time uses it.
+#[derive(Debug)]
+pub struct OpenJob {
+    handle: TrapJob,
+}
+
+// SAFETY: the library keeps no state but behind the handle, so another thread may go on with it.
+unsafe impl Send for OpenJob {}
+
+impl OpenJob {
+    /// Reads a job.
+    pub fn new(job: &[u8]) -> Result<OpenJob, Refusal> {
+        let (mut opened, mut text) = (
+            OpenJob {
+                handle: TrapJob::none(),
+            },
+            Text::new(),
+        );
+        // SAFETY: as above.
+        let status = unsafe {
+            let into = text.bytes.as_mut_ptr().cast::<c_char>();
+            trap_sys::trap_open(
+                job.as_ptr().cast(),
+                job.len(),
+                &mut opened.handle,
+                into,
+                text.bytes.len(),
+                &mut text.len,
+            )
+        };
+        answer(status, text).map(|_| opened)
+    }
+
+    /// What `halo` gives for the job.
+    pub fn halo(&mut self) -> u32 {
+        let mut halo = 0;
+        // SAFETY: both are borrowed mutably. The job is open, so the status is 0.
+        unsafe { trap_sys::trap_open_halo(&mut self.handle, &mut halo) };
+        halo
+    }
+
+    /// Does what `trap_window` does with the job.
+    pub fn trap_window<S: Sample>(
+        &mut self,
+        names: &[&str],
+        samples: &mut [S],
+        layout: Layout,
+        place: &Place,
+    ) -> Result<String, Refusal> {
+        trap(Source::Open(&mut self.handle, place), names, samples, layout)
+    }
+}
+
+impl Drop for OpenJob {
+    fn drop(&mut self) {
+        // SAFETY: the handle is as the library left it.
+        unsafe { trap_sys::trap_close(&mut self.handle) }
+    }
 }
 
 /// The version of the library: 900 for 0.9.0.

@@ -3,7 +3,7 @@
 
 use std::fs;
 use std::path::PathBuf;
-use trapping::{halo, trap_page, trap_window, version, Kind, Layout, Place};
+use trapping::{halo, trap_page, trap_window, version, Kind, Layout, OpenJob, Place};
 
 const INKS: [&str; 4] = ["Cyan", "Magenta", "Yellow", "Black"];
 const LAYOUT: Layout = Layout {
@@ -50,7 +50,9 @@ fn a_page_of_words() {
 #[test]
 fn bands_are_the_page() {
     let job = file("poster.job");
+    let mut opened = OpenJob::new(&job).unwrap();
     let (rendered, more) = (planes("plates"), halo(&job).unwrap());
+    assert_eq!(opened.halo(), more);
     let mut trapped = vec![0; rendered.len()];
     for top in (0..LAYOUT.height).step_by(100) {
         let (first, end) = (top.saturating_sub(more), (top + 100 + more).min(LAYOUT.height));
@@ -68,17 +70,14 @@ fn bands_are_the_page() {
             core_width: LAYOUT.width,
             core_height: 100,
         };
-        trap_window(
-            &job,
-            &INKS,
-            &mut window,
-            Layout {
-                height: end - first,
-                ..LAYOUT
-            },
-            &place,
-        )
-        .unwrap();
+        let layout = Layout {
+            height: end - first,
+            ..LAYOUT
+        };
+        let mut other = window.clone();
+        let report = trap_window(&job, &INKS, &mut window, layout, &place).unwrap();
+        assert_eq!(opened.trap_window(&INKS, &mut other, layout, &place).unwrap(), report);
+        assert!(other == window);
         for c in 0..INKS.len() {
             let from = (c * (end - first) as usize + (top - first) as usize) * LAYOUT.width as usize;
             let core = &window[from..from + 100 * LAYOUT.width as usize];
@@ -93,6 +92,7 @@ fn refusals_leave_the_samples() {
     let mut samples = planes("plates");
     let refusal = trap_page(b"<<", &INKS, &mut samples, LAYOUT).unwrap_err();
     assert_eq!(refusal.kind, Kind::Job);
+    assert_eq!(OpenJob::new(b"<<").unwrap_err(), refusal);
     let refusal = trap_page(
         &file("poster.job"),
         &["Cyan\nMagenta", "Yellow", "Black"],

@@ -61,10 +61,8 @@ fn judge_two(rt: &(impl Threads + Sync), trays: &mut [MemTray]) -> Result<[Heade
     requires { length trays.old ≡ 2 }
 {
     let mut headers = [NONE.header; 2];
-    match judge_plates(rt, 2, trays, &INPUTS, &mut headers) {
-        Ok(()) => Ok(headers),
-        Err(common_error) => Err(common_error),
-    }
+    judge_plates(rt, 2, trays, &INPUTS, &mut headers)?;
+    Ok(headers)
 }
 
 // Keeps the lower of a plane's two rows.

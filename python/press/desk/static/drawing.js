@@ -77,11 +77,20 @@ function corners(tool, points) {
   return [[x0, y0], [x1, y0], [x1, y1], [x0, y1]];
 }
 
+/** What was drawn last, so that nothing is drawn again that is there. */
+let drawn = '';
+
+/** Has the zones drawn anew the next time: a corner may be where it was refused. */
+export function forgetZones() { drawn = ''; }
+
 /**
  * Outlines of the job's zones, and corners of the chosen one to drag.
  * @param {any} layer @param {any} page @param {number} chosen @param {(corner: number, point: number[]) => void} moved
  */
 export function drawZones(layer, page, chosen, moved) {
+  const key = JSON.stringify([page.id, chosen, page.edits.zones[chosen], page.jobZones.map((/** @type {any} */ zone) => [zone.rings, zone.settings.Enabled])]);
+  if (key === drawn) return;
+  drawn = key;
   layer.clearLayers();
   for (const zone of page.jobZones) {
     const rings = zone.rings.map((/** @type {number[][]} */ ring) => [ring.map(([x, y]) => [y, x])]), isOff = !zone.settings.Enabled;

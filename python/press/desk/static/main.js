@@ -2,9 +2,9 @@
 // The app: jobs and pages, the picture, edits with undo, and the keyboard.
 import { Conflict, get, listen, pageAndPixels, save, send } from './api.js';
 import { listCompared, showCompared } from './compare.js';
-import { Drawing, drawZones } from './drawing.js';
+import { Drawing, drawZones, forgetZones } from './drawing.js';
 import { showJobs } from './jobs.js';
-import { byId, showPanels, showWhy } from './panels.js';
+import { byId, forgetPanels, showPanels, showWhy } from './panels.js';
 import { PageView, L } from './view.js';
 
 /** What the app holds: the jobs, the page as the server last described it, and what waits to be sent. */
@@ -46,6 +46,8 @@ export async function openPage(id) {
   const page = await get(`/api/pages/${id}`);
   const isOther = !app.page || app.page.id !== page.id;
   app.page = page;
+  forgetPanels();
+  forgetZones();
   if (isOther) {
     app.chosenZone = -1;
     app.waiting = null;
@@ -59,12 +61,20 @@ export async function openPage(id) {
   await compareAgain();
 }
 
+/** A slider that is pulled stays where it is: the panels are built anew once it is let go. */
+let isSliding = false, isStale = false;
+byId('panels').addEventListener('pointerdown', ({ target }) => { isSliding = target instanceof HTMLInputElement && target.type === 'range'; });
+for (const end of ['pointerup', 'pointercancel']) {
+  addEventListener(end, () => { isSliding = false; if (isStale) setTimeout(showPage); });
+}
+
 /** Everything around the picture. */
 function showPage() {
   const { page } = app;
+  isStale = isSliding;
   drawZones(zoneLayer, page, app.chosenZone, (corner, point) => edit((edits) => { edits.zones[app.chosenZone].points[corner] = point; }));
-  showPanels(app, { edit, choose, setInks, setShift, goTo, approve, addNote, save: saveOutput, applyToAll });
-  listCompared(app);
+  if (!isSliding) showPanels(app, { edit, choose, setInks, setShift, goTo, approve, addNote, save: saveOutput, applyToAll });
+  if (!byId('other').hidden) listCompared(app);
   byId('softbox').hidden = !page.canSoftProof;
   byId('preview').hidden = !page.preview && page.version === page.shown;
   byId('preview').textContent = page.preview ? `preview: ${page.lacks.join(' and ')} follow${page.lacks.length === 1 && page.lacks[0] === 'keepaway' ? 's' : ''}` : 'the page follows';
@@ -130,6 +140,7 @@ const isTicked = (id) => /** @type {HTMLInputElement} */ (byId(id)).checked;
 
 function straighten() {
   app.shifts = null;
+  forgetPanels();
   if (!app.page) return;
   view.shifts = app.page.inks.map(() => [0, 0]);
   if (view.needsLive()) view.look(); else view.hideLive();
@@ -165,7 +176,7 @@ async function sendEdits() {
     say(`version ${app.page.version}`);
   } catch (fault) {
     if (fault instanceof Conflict) await conflict(edits);
-    else { say(String(fault instanceof Error ? fault.message : fault), true); showPage(); }
+    else { say(String(fault instanceof Error ? fault.message : fault), true); forgetPanels(); forgetZones(); showPage(); }
   } finally {
     app.isSending = false;
     if (app.waiting) sendEdits();
@@ -315,6 +326,7 @@ function toggleCompare() {
   byId('comparedhint').hidden = true;
   byId('compare').setAttribute('aria-pressed', String(isOn));
   view.map.invalidateSize();
+  if (isOn && app.page) listCompared(app);
   compareAgain();
 }
 

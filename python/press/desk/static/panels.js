@@ -28,31 +28,48 @@ const SETTINGS = /** @type {[string, string, number, number, number, string][]} 
   ['TrapColorScaling', 'Trap colour scaling', 0, 1, 0.05, ''],
 ]);
 
+/** What each panel shows. @type {Map<string, string>} */
+const shown = new Map();
+
+/** Has all panels built anew the next time: the page is another one, or a control shows what was refused. */
+export function forgetPanels() { shown.clear(); }
+
+/**
+ * Builds a panel if what it shows has changed.
+ * @param {(app: any, on: any) => void} build @param {any} app @param {any} on @param {any[]} what
+ */
+function showIfNew(build, app, on, ...what) {
+  const key = JSON.stringify(what);
+  if (shown.get(build.name) === key) return;
+  shown.set(build.name, key);
+  build(app, on);
+}
+
 /**
  * @param {any} app
  * @param {any} on
  */
 export function showPanels(app, on) {
-  const focused = document.activeElement?.id;
-  showPlates(app, on);
-  showSettings(app.page, on);
-  showKeepaway(app.page, on);
-  showInks(app.page, on);
-  showRules(app.page, on);
-  showZones(app, on);
-  showJobZones(app.page, on);
-  showFindings(app.page, on);
-  showApproval(app.page, on);
-  showDownloads(app.page, on);
-  if (focused) byId(focused)?.focus();
+  const focused = document.activeElement?.id, { page } = app;
+  showIfNew(showPlates, app, on, page.inks, page.dpi, app.shownInks, app.shifts);
+  showIfNew(showSettings, app, on, page.settings, page.presets);
+  showIfNew(showKeepaway, app, on, page.keepaway, page.edits.keepaway);
+  showIfNew(showInks, app, on, page.inks);
+  showIfNew(showRules, app, on, page.rules, page.siblings);
+  showIfNew(showZones, app, on, page.edits.zones, page.settings, page.dpi, app.chosenZone);
+  showIfNew(showJobZones, app, on, page.jobZones);
+  showIfNew(showFindings, app, on, page.findings);
+  showIfNew(showApproval, app, on, page.approval, page.notes);
+  showIfNew(showDownloads, app, on, page.downloads, page.dpi);
+  if (focused && focused !== document.activeElement?.id) byId(focused)?.focus();
 }
 
 /**
  * Densities and kinds of the inks.
- * @param {any} page
+ * @param {any} app
  * @param {any} on
  */
-function showInks(page, on) {
+function showInks({ page }, on) {
   const head = element('tr', {}, ['Ink', 'Density', 'Kind'].map((text) => element('th', { textContent: text, scope: 'col' })));
   const rows = page.inks.map((/** @type {any} */ ink, /** @type {number} */ k) => {
     const set = (/** @type {any} */ more) => on.edit((/** @type {any} */ edits) => {
@@ -120,10 +137,10 @@ function control(id, [, label, least, most, step, unit], value, set) {
 }
 
 /**
- * @param {any} page
+ * @param {any} app
  * @param {any} on
  */
-function showSettings(page, on) {
+function showSettings({ page }, on) {
   const pick = element('select', { id: 'preset' }, [new Option('Preset …', ''), ...page.presets.map((/** @type {any} */ one) => new Option(one.name, one.name))]);
   pick.setAttribute('aria-label', 'Preset');
   pick.onchange = () => on.edit((/** @type {any} */ edits) => {
@@ -137,10 +154,10 @@ function showSettings(page, on) {
 
 /**
  * Keepaway: on or off, its width, and what it did on the page.
- * @param {any} page
+ * @param {any} app
  * @param {any} on
  */
-function showKeepaway(page, on) {
+function showKeepaway({ page }, on) {
   const { width, most, done } = page.keepaway, isOn = width > 0, own = page.edits.keepaway;
   const set = (/** @type {number | null} */ value) => on.edit((/** @type {any} */ edits) => { edits.keepaway = value; });
   const box = element('input', { type: 'checkbox', id: 'keepaway', checked: isOn });
@@ -160,10 +177,10 @@ const RULES = /** @type {[string, string][]} */ ([['thin', 'Narrower traps at sm
 
 /**
  * The press room's own rules, as far as the page has them; and applying all settings to the job's other pages.
- * @param {any} page
+ * @param {any} app
  * @param {any} on
  */
-function showRules(page, on) {
+function showRules({ page }, on) {
   byId('rules').replaceChildren(...RULES.filter(([rule]) => rule in page.rules).map(([rule, text]) => {
     const box = element('input', { type: 'checkbox', id: `rule-${rule}`, checked: page.rules[rule] });
     box.onchange = () => on.edit((/** @type {any} */ edits) => {
@@ -189,10 +206,10 @@ function settingsText(settings) {
 
 /**
  * All zones of the job with their parameters, each with a link to its place.
- * @param {any} page
+ * @param {any} app
  * @param {any} on
  */
-function showJobZones(page, on) {
+function showJobZones({ page }, on) {
   byId('jobzones').replaceChildren(...page.jobZones.map((/** @type {any} */ zone, /** @type {number} */ k) => {
     const points = zone.rings.flat();
     const side = (/** @type {number} */ axis, /** @type {number} */ most) => points.map((/** @type {number[]} */ one) => Math.max(0, Math.min(most, one[axis])));
@@ -259,10 +276,10 @@ function corners(page, zone, k, change) {
 
 /**
  * What preflight found, the gravest first, with links to its places.
- * @param {any} page
+ * @param {any} app
  * @param {any} on
  */
-function showFindings(page, on) {
+function showFindings({ page }, on) {
   const { findings } = page;
   byId('findings').replaceChildren(...(findings.length ? findings.map((/** @type {any} */ finding, /** @type {number} */ k) => {
     const links = finding.places.map((/** @type {number[]} */ place, /** @type {number} */ number) => {
@@ -277,10 +294,10 @@ function showFindings(page, on) {
 }
 
 /**
- * @param {any} page
+ * @param {any} app
  * @param {any} on
  */
-function showApproval(page, on) {
+function showApproval({ page }, on) {
   const { approval, notes } = page;
   const said = !approval ? 'Not approved yet.' : `${approval.verdict} by ${approval.name}, ${approval.time}${approval.current ? '' : ': out of date, the page has changed since'}`;
   const name = element('input', { type: 'text', id: 'approver', value: localStorage.getItem('approver') || '' });
@@ -302,10 +319,10 @@ function showApproval(page, on) {
 }
 
 /**
- * @param {any} page
+ * @param {any} app
  * @param {any} on
  */
-function showDownloads(page, on) {
+function showDownloads({ page }, on) {
   const dpi = element('input', { type: 'number', id: 'screendpi', min: page.dpi, max: 20000, value: String(Math.max(2400, page.dpi)) });
   const lpi = element('input', { type: 'number', id: 'screenlpi', min: 10, max: 400, value: '150' });
   const list = page.downloads.map((/** @type {any} */ one) => {

@@ -214,9 +214,10 @@ export class PageView {
    */
   draw(asked, data, start, gaps) {
     const { left, top, width, height } = asked, picture = this.pictureOf(asked), pixels = new Uint32Array(picture.image.data.buffer);
-    if (asked.delta) this.over(picture, pixels, data);
+    let [from, to] = [0, height];
+    if (asked.delta) [from, to] = this.over(picture, pixels, data);
     else { pixels.set(data); picture.key = ''; }
-    picture.canvas.getContext('2d')?.putImageData(picture.image, 0, 0);
+    picture.canvas.getContext('2d', { alpha: false })?.putImageData(picture.image, 0, 0, 0, from, width, to - from);
     if (this.live?.getElement() !== picture.canvas) {
       this.hideLive();
       this.live = L.svgOverlay(/** @type {any} */ (picture.canvas), [[top, left], [top + height, left + width]], { pane: 'live' }).addTo(this.map);
@@ -239,17 +240,22 @@ export class PageView {
   }
 
   /**
-   * Changed pixels over the picture before: first all places, then all colours.
+   * Changed pixels over the picture before: first all places in their order, then all colours. Answers the rows that may
+   * have changed: the first, and the one after the last.
    * @param {any} picture
    * @param {Uint32Array} pixels
    * @param {Uint32Array} changes
    */
   over(picture, pixels, changes) {
-    const { key, pixels: base } = this.base, count = changes.length / 2;
-    if (picture.key === key) for (const at of picture.changed) pixels[at] = base[at];
+    const { key, pixels: base } = this.base, count = changes.length / 2, places = changes.subarray(0, count), old = picture.changed;
+    const isSame = picture.key === key, { width, height } = picture.image;
+    if (isSame) for (let k = 0; k < old.length; k += 1) pixels[old[k]] = base[old[k]];
     else pixels.set(base);
-    for (let k = 0; k < count; k += 1) pixels[changes[k]] = changes[count + k];
-    Object.assign(picture, { key, changed: changes.subarray(0, count) });
+    for (let k = 0; k < count; k += 1) pixels[places[k]] = changes[count + k];
+    Object.assign(picture, { key, changed: places });
+    if (!isSame) return [0, height];
+    const ends = [old, places].filter((one) => one.length).map((one) => [one[0], one[one.length - 1]]);
+    return ends.length ? [Math.floor(Math.min(...ends.map(([first]) => first)) / width), Math.floor(Math.max(...ends.map(([, last]) => last)) / width) + 1] : [0, 0];
   }
 }
 

@@ -42,5 +42,5 @@ fill_zones-requires-clause-phase g c = grind (arith, common_steps)
 pub fill_zones-requires-clause-workspace : goal.fill_zones-requires-clause-workspace
 fill_zones-requires-clause-workspace g c = grind (arith, common_steps)
 
-pub nonzero_div-piece : goal.nonzero_div-piece
-nonzero_div-piece g c = grind (arith, common_steps)
+pub nonzero_div-task : goal.nonzero_div-task
+nonzero_div-task g c = grind (arith, common_steps)

@@ -20,7 +20,7 @@ use Rattle.band_pieces.proofs.fills.fill_answers.Goals as goal
 
 pub read_rows-requires-clause-known : goal.read_rows-requires-clause-known
 read_rows-requires-clause-known g c y from below =
-    let layout = c.args.layout.now in let i : ℕ = c.args.piece in let key : TableKey = g.C.CellSource.table_key c.args.table.now c.args.seat.now in
+    let layout = c.args.task.now.layout.now in let i : ℕ = c.args.task.now.piece in let key : TableKey = g.C.CellSource.table_key c.args.table.now c.args.seat.now in
     let rows : c.rows_of-rows.result ≡ rows_of_piece layout.bands i = c.rows_of-rows.ensures.value ∙ ap (λ (z : Bands). rows_of_piece z i) c.bands.ensures.value in
     let tall = ap (λ (z : Bands). z.rows) c.bands-2.ensures.value in let low = ap (λ (z : Bands). z.height) c.bands.ensures.value in
     let reach = ap (λ (z : Bands). halo z.reach2) c.bands-2.ensures.value in
@@ -29,7 +29,7 @@ read_rows-requires-clause-known g c y from below =
 
 pub make_answers-requires-clause-marks : goal.make_answers-requires-clause-marks
 make_answers-requires-clause-marks g c =
-    marks_from c.args.page.now c.args.layout.now c.rows_near-stored.result c.read_rows.new.out c.requires.lies.wide (subst (λ (p : PageParts). HoldsRows (per_row c.args.layout.now 1) (row_value p 1) c.rows_near-stored.result c.read_rows.new.out) (sym c.requires.page) c.read_rows.ensures.rows)
+    marks_from c.args.task.now.page.now c.args.task.now.layout.now c.rows_near-stored.result c.read_rows.new.out c.requires.lies.wide (subst (λ (p : PageParts). HoldsRows (per_row c.args.task.now.layout.now 1) (row_value p 1) c.rows_near-stored.result c.read_rows.new.out) (sym c.requires.page) c.read_rows.ensures.rows)
 
 pub make_answers-requires-clause-far_above : goal.make_answers-requires-clause-far_above
 make_answers-requires-clause-far_above g c row l =
@@ -44,15 +44,15 @@ make_answers-requires-clause-far_under g c row inside l =
 
 pub put_values-requires-clause-values : goal.put_values-requires-clause-values
 put_values-requires-clause-values g c =
-    let layout = c.args.layout.now in let i : ℕ = c.args.piece in let key : TableKey = g.C.CellSource.table_key c.args.table.now c.args.seat.now in
+    let layout = c.args.task.now.layout.now in let i : ℕ = c.args.task.now.piece in let key : TableKey = g.C.CellSource.table_key c.args.table.now c.args.seat.now in
     let rows : c.rows_of-rows.result ≡ rows_of_piece layout.bands i = c.rows_of-rows.ensures.value ∙ ap (λ (z : Bands). rows_of_piece z i) c.bands.ensures.value in
-    rw c.read_rows.ensures.seat (made_values key c.args.page.now layout i c.rows_of-rows.result c.make_answers.new.out c.requires.layout c.requires.page rows (answers_to c.args.page.now layout _ c.rows_of-rows.result c.make_answers.new.out c.requires.lies.wide c.requires.phase c.make_answers.ensures.answers))
+    rw c.read_rows.ensures.seat (made_values key c.args.task.now.page.now layout i c.rows_of-rows.result c.make_answers.new.out c.requires.layout c.requires.page rows (answers_to c.args.task.now.page.now layout _ c.rows_of-rows.result c.make_answers.new.out c.requires.lies.wide c.requires.phase c.make_answers.ensures.answers))
 
 pub put_values-requires-clause-fit : goal.put_values-requires-clause-fit
 put_values-requires-clause-fit g c = rw c.read_rows.ensures.seat c.requires.fit
 
 pub put_values-requires-clause-piece : goal.put_values-requires-clause-piece
-put_values-requires-clause-piece g c = let e = c.read_rows.ensures.seat ∙ refl in rw e (subst (λ (z : Layout). c.args.piece < pieces_of z.bands) c.requires.layout c.requires.piece)
+put_values-requires-clause-piece g c = let e = c.read_rows.ensures.seat ∙ refl in rw e (subst (λ (z : Layout). c.args.task.now.piece < pieces_of z.bands) c.requires.layout c.requires.piece)
 
 pub put_values-requires-clause-may : goal.put_values-requires-clause-may
 put_values-requires-clause-may g c = rw c.read_rows.ensures.seat c.requires.may

@@ -9,9 +9,9 @@ use Rattle.band_pieces.proofs.fills.fill_zones.Goals as goal
 
 pub put_values-requires-clause-values : goal.put_values-requires-clause-values
 put_values-requires-clause-values g c =
-    let layout = c.args.layout.now in let i : ℕ = c.args.piece in let key : TableKey = g.C.CellSource.table_key c.args.table.now c.args.seat.now in
+    let layout = c.args.task.now.layout.now in let i : ℕ = c.args.task.now.piece in let key : TableKey = g.C.CellSource.table_key c.args.table.now c.args.seat.now in
     let rows : c.rows_of-rows.result ≡ rows_of_piece layout.bands i = c.rows_of-rows.ensures.value ∙ ap (λ (z : Bands). rows_of_piece z i) c.bands.ensures.value in
-    made_values key c.args.page.now layout i c.rows_of-rows.result c.make_zones.new.out c.requires.layout c.requires.page rows (zones_to c.args.page.now layout _ c.rows_of-rows.result c.make_zones.new.out c.requires.lies.wide c.requires.phase c.make_zones.ensures.zones)
+    made_values key c.args.task.now.page.now layout i c.rows_of-rows.result c.make_zones.new.out c.requires.layout c.requires.page rows (zones_to c.args.task.now.page.now layout _ c.rows_of-rows.result c.make_zones.new.out c.requires.lies.wide c.requires.phase c.make_zones.ensures.zones)
 
 pub overflow_mul-count : goal.overflow_mul-count
 overflow_mul-count g c = grind (arith, common_steps)

@@ -3,10 +3,10 @@ use Rattle.keep_pages.proofs.PlaneLemmas.{few_in_planes, planes_count, planes_in
 use Rattle.keep_pages.proofs.laws.kept_planes_law.Goals as goal
 
 pub returns-clause-planes : goal.returns-clause-planes
-returns-clause-planes c = planes_in_range c.args.page.now c.args.rich.now c.plates-valid.ensures.valid
+returns-clause-planes c = planes_in_range c.args.page.now c.args.used.now c.plates-valid.ensures.valid
 
 pub returns-clause-samples : goal.returns-clause-samples
-returns-clause-samples c = few_in_planes c.args.page.now c.args.rich.now c.plates-valid.ensures.valid
+returns-clause-samples c = few_in_planes c.args.page.now c.args.used.now c.plates-valid.ensures.valid
 
 pub returns-clause-count : goal.returns-clause-count
-returns-clause-count c = planes_count c.args.page.now c.args.rich.now
+returns-clause-count c = planes_count c.args.page.now c.args.used.now

@@ -5,4 +5,4 @@ use Rattle.keep_pages.proofs.PageLemmas.{text_same}
 use Rattle.keep_pages.proofs.report.report_with.Goals as goal
 
 pub returns : goal.returns
-returns c = c.in_ok-text.ensures ∙ text_same c.args.page.now c.args.covered (covered_count c.args.page.now c.args.rich.now.limit) (slice_index c.args.changed.now) (changed_count c.args.page.now c.args.rich.now) c.requires.covered c.requires.changed
+returns c = c.in_ok-text.ensures ∙ text_same c.args.page.now c.args.used.now c.args.covered (covered_count c.args.page.now c.args.used.now) (slice_index c.args.changed.now) (changed_count c.args.page.now c.args.used.now) c.requires.covered c.requires.changed

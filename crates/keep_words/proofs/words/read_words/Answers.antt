@@ -1,5 +1,5 @@
 -- read_words: words that are too few mean no command.
-use Rattle.std.proofs.Common.{map, string_bytes, length, arith}
+use Rattle.std.proofs.Common.{map, string_bytes}
 use Rattle.std.proofs.lemmas.List.{length-map}
 use Rattle.keep_words.proofs.WordLemmas.{too_short}
 use Rattle.keep_words.proofs.words.read_words.Goals as goal

@@ -1,4 +1,5 @@
 -- write_on: writes a piece at the end of the open file.
+use Rattle.std.proofs.lemmas.Result.{err_from_is_err_and}
 use Rattle.std.proofs.Common.{rules, IsTrue, take, drop, length, ◌-◌, refl, ◌∙◌, arith}
 use Rattle.outside.proofs.Files.{grows_none, grows_more, grows_all}
 use Rattle.outside.proofs.Steps.{write_failed}
@@ -19,7 +20,7 @@ loop-done-init g c = record {
 
 pub loop-done-preserved : goal.loop-done-preserved
 loop-done-preserved g c =
-    let write = c.in-Ok.ensures in
+    let write = c.in_ok-count.ensures in
     record {
       keeps = search rules;
       asked = search rules;
@@ -29,15 +30,16 @@ loop-done-preserved g c =
       current = search rules;
       files = λ tells.
           let tells_here : IsTrue (g.R.Rack.state c.loop-done.rack).tells = cc in
-          grows_more c.args.piece.now c.loop-done.done c.in-Ok.count (g.R.Rack.state c.args.rack.now) (g.R.Rack.state c.loop-done.rack) (g.R.Rack.state c.write.new.self) (c.loop-done.invariant.current tells) (c.loop-done.invariant.files tells) (write.files tells_here);
+          grows_more c.args.piece.now c.loop-done.done c.in_ok-count.count (g.R.Rack.state c.args.rack.now) (g.R.Rack.state c.loop-done.rack) (g.R.Rack.state c.write.new.self) (c.loop-done.invariant.current tells) (c.loop-done.invariant.files tells) (write.files tells_here);
       well = write.fails.well ∙ c.loop-done.invariant.well;
       within = search rules;
     }
 
-pub returns-in-Err : goal.returns-in-Err
-returns-in-Err g c =
+pub returns-in_err-count : goal.returns-in_err-count
+returns-in_err-count g c =
     let here = c.loop-done.invariant in
-    write_failed c.args.piece.now (take (length c.args.piece.now - c.loop-done.done) (drop c.loop-done.done c.args.piece.now)) c.loop-done.done (g.R.Rack.state c.args.rack.now) (g.R.Rack.state c.loop-done.rack) (g.R.Rack.state c.write.new.self) _ _ here.keeps here.asked here.finished here.well here.reported here.is_open here.current here.files c.in-Err.ensures
+    let p = err_from_is_err_and c.from_residual.result c.from_residual.ensures.1 in
+    rw p.1 (write_failed c.args.piece.now (take (length c.args.piece.now - c.loop-done.done) (drop c.loop-done.done c.args.piece.now)) c.loop-done.done (g.R.Rack.state c.args.rack.now) (g.R.Rack.state c.loop-done.rack) (g.R.Rack.state c.write.new.self) _ _ here.keeps here.asked here.finished here.well here.reported here.is_open here.current here.files c.in_err-count.ensures)
 
 pub returns : goal.returns
 returns g c =

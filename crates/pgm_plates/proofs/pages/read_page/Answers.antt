@@ -9,9 +9,9 @@ use Rattle.pgm_plates.specs.Readers.{plate_from}
 use Rattle.pgm_plates.specs.Sequences.{ReadsPage}
 use Rattle.pgm_plates.proofs.pages.read_page.Goals as goal
 
-pub returns-in-Ok-Some : goal.returns-in-Ok-Some
-returns-in-Ok-Some g c =
+pub returns-in-Some : goal.returns-in-Some
+returns-in-Some g c =
     let a = g.T.Tray.state c.args.tray.now in
     let b = g.T.Tray.state c.read_named.new.tray in
     subst (λ (p : Plate). ReadsPage c.args.name.now c.args.page a b (Ok (Some p))) (sym c.into_plate.ensures)
-    (subst (λ (o : Option Values). ReadsPage c.args.name.now c.args.page a b (map_ok (map_some (plate_from Samples)) (Ok o))) c.in-Ok-Some.field-0-is c.in-Ok-Some.ensures.answer)
+    (subst (λ (o : Option Values). ReadsPage c.args.name.now c.args.page a b (map_ok (map_some (plate_from Samples)) (Ok o))) c.in-Some.is c.in_ok-read.ensures.answer)

@@ -12,26 +12,26 @@ use Rattle.pgm_plates.specs.Sequences.{ReadsPage}
 use Rattle.pgm_plates.proofs.ReadValues.{page_plane_read}
 use Rattle.pgm_plates.proofs.pages.read_page_plane.Goals as goal
 
-pub returns-in-Ok-Some-clause-plate : goal.returns-in-Ok-Some-clause-plate
-returns-in-Ok-Some-clause-plate g c =
+pub returns-in-Some-clause-plate : goal.returns-in-Some-clause-plate
+returns-in-Some-clause-plate g c =
     let a = g.T.Tray.state c.args.tray.now in
     let b = g.T.Tray.state c.read_named.new.tray in
     subst (λ (p : Plane). ReadsPage c.args.name.now c.args.page a b (Ok (Some (plate_of p)))) (sym c.into_plane.ensures)
-    (subst (λ (o : Option Values). ReadsPage c.args.name.now c.args.page a b (map_ok (map_some (plate_from Tints)) (Ok o))) c.in-Ok-Some.field-0-is c.in-Ok-Some.ensures.answer)
+    (subst (λ (o : Option Values). ReadsPage c.args.name.now c.args.page a b (map_ok (map_some (plate_from Tints)) (Ok o))) c.in-Some.is c.in_ok-read.ensures.answer)
 
-pub returns-in-Ok-Some-clause-in_range : goal.returns-in-Ok-Some-clause-in_range
-returns-in-Ok-Some-clause-in_range g c =
+pub returns-in-Some-clause-in_range : goal.returns-in-Some-clause-in_range
+returns-in-Some-clause-in_range g c =
     let a = g.T.Tray.state c.args.tray.now in
     let b = g.T.Tray.state c.read_named.new.tray in
-    let read = subst (λ (o : Option Values). ReadsPage c.args.name.now c.args.page a b (map_ok (map_some (plate_from Tints)) (Ok o))) c.in-Ok-Some.field-0-is c.in-Ok-Some.ensures.answer in
-    let below = subst (λ (o : Option Values). IfSome o (λ (r : Values). Fit r.header.maxval r.values)) c.in-Ok-Some.field-0-is c.in-Ok-Some.ensures.below in
-    subst IsPlane (sym c.into_plane.ensures) (page_plane_read c.args.name.now c.args.page a b (plane_with c.in-Ok-Some.read.header c.in-Ok-Some.read.values) read below).0
+    let read = subst (λ (o : Option Values). ReadsPage c.args.name.now c.args.page a b (map_ok (map_some (plate_from Tints)) (Ok o))) c.in-Some.is c.in_ok-read.ensures.answer in
+    let below = subst (λ (o : Option Values). IfSome o (λ (r : Values). Fit r.header.maxval r.values)) c.in-Some.is c.in_ok-read.ensures.below in
+    subst IsPlane (sym c.into_plane.ensures) (page_plane_read c.args.name.now c.args.page a b (plane_with c.in-Some.read.header c.in-Some.read.values) read below).0
 
-pub returns-in-Ok-Some-clause-few : goal.returns-in-Ok-Some-clause-few
-returns-in-Ok-Some-clause-few g c =
+pub returns-in-Some-clause-few : goal.returns-in-Some-clause-few
+returns-in-Some-clause-few g c =
     let a = g.T.Tray.state c.args.tray.now in
     let b = g.T.Tray.state c.read_named.new.tray in
-    let read = subst (λ (o : Option Values). ReadsPage c.args.name.now c.args.page a b (map_ok (map_some (plate_from Tints)) (Ok o))) c.in-Ok-Some.field-0-is c.in-Ok-Some.ensures.answer in
-    let below = subst (λ (o : Option Values). IfSome o (λ (r : Values). Fit r.header.maxval r.values)) c.in-Ok-Some.field-0-is c.in-Ok-Some.ensures.below in
+    let read = subst (λ (o : Option Values). ReadsPage c.args.name.now c.args.page a b (map_ok (map_some (plate_from Tints)) (Ok o))) c.in-Some.is c.in_ok-read.ensures.answer in
+    let below = subst (λ (o : Option Values). IfSome o (λ (r : Values). Fit r.header.maxval r.values)) c.in-Some.is c.in_ok-read.ensures.below in
     subst (λ (p : Plane). p.width * p.height ≤ most_samples) (sym c.into_plane.ensures)
-    (page_plane_read c.args.name.now c.args.page a b (plane_with c.in-Ok-Some.read.header c.in-Ok-Some.read.values) read below).1
+    (page_plane_read c.args.name.now c.args.page a b (plane_with c.in-Some.read.header c.in-Some.read.values) read below).1

@@ -4,6 +4,6 @@ use Rattle.pgm_plates.specs.declared.plate.Plate.{Plate}
 use Rattle.pgm_plates.specs.Reading.{ReadsPlateWithin}
 use Rattle.pgm_plates.proofs.reading.read_plate_within.Goals as goal
 
-pub returns-in-Ok : goal.returns-in-Ok
-returns-in-Ok g c =
-    subst (λ (p : Plate). ReadsPlateWithin c.args.bounds c.args.name.now (g.T.Tray.state c.args.tray.now) (g.T.Tray.state c.read_named.new.tray) (Ok p)) (sym c.into_plate.ensures) c.in-Ok.ensures.answer
+pub returns : goal.returns
+returns g c =
+    subst (λ (p : Plate). ReadsPlateWithin c.args.bounds c.args.name.now (g.T.Tray.state c.args.tray.now) (g.T.Tray.state c.read_named.new.tray) (Ok p)) (sym c.into_plate.ensures) c.in_ok-read.ensures.answer

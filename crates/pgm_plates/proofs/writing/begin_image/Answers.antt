@@ -5,8 +5,8 @@ use Rattle.std.proofs.Common.{arith}
 use Rattle.pgm_plates.proofs.WrittenRows.{image_begun}
 use Rattle.pgm_plates.proofs.writing.begin_image.Goals as goal
 
-pub returns-in-Ok : goal.returns-in-Ok
-returns-in-Ok g c = image_begun c.args.name.now c.args.header (g.R.Rack.state c.args.rack.now) (g.R.Rack.state c.create.new.self) (g.R.Rack.state c.write_header.new.rack) c.write_header.result c.in-Ok.ensures c.write_header.ensures
+pub returns : goal.returns
+returns g c = image_begun c.args.name.now c.args.header (g.R.Rack.state c.args.rack.now) (g.R.Rack.state c.create.new.self) (g.R.Rack.state c.write_header.new.rack) c.write_header.result c.in_ok-create.ensures c.write_header.ensures
 
-pub returns-in-Err : goal.returns-in-Err
-returns-in-Err g c = grind (arith, common_steps)
+pub returns-in_err-create : goal.returns-in_err-create
+returns-in_err-create g c = grind (arith, common_steps)

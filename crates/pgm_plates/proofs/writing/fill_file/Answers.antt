@@ -4,5 +4,5 @@ use Rattle.pgm_plates.specs.Planes.{plate_in}
 use Rattle.pgm_plates.specs.Plates.{spelled}
 use Rattle.pgm_plates.proofs.writing.fill_file.Goals as goal
 
-pub returns-in-Ok : goal.returns-in-Ok
-returns-in-Ok g c = written_then_finished (spelled (plate_in c.args.image.now)) (g.R.Rack.state c.args.rack.now) (g.R.Rack.state c.write_whole.new.rack) (g.R.Rack.state c.finish.new.self) _ c.finish.result c.in-Ok.ensures c.finish.ensures
+pub returns : goal.returns
+returns g c = written_then_finished (spelled (plate_in c.args.image.now)) (g.R.Rack.state c.args.rack.now) (g.R.Rack.state c.write_whole.new.rack) (g.R.Rack.state c.finish.new.self) _ c.finish.result c.in_ok-write_whole.ensures c.finish.ensures

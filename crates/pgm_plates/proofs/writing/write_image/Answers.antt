@@ -6,8 +6,8 @@ use Rattle.pgm_plates.specs.Planes.{plate_in}
 use Rattle.pgm_plates.specs.Plates.{spelled}
 use Rattle.pgm_plates.proofs.writing.write_image.Goals as goal
 
-pub returns-in-Ok : goal.returns-in-Ok
-returns-in-Ok g c = created_then_filled c.args.name.now (spelled (plate_in c.args.image.now)) (g.R.Rack.state c.args.rack.now) (g.R.Rack.state c.create.new.self) (g.R.Rack.state c.fill_file.new.rack) _ c.fill_file.result c.in-Ok.ensures c.fill_file.ensures
+pub returns : goal.returns
+returns g c = created_then_filled c.args.name.now (spelled (plate_in c.args.image.now)) (g.R.Rack.state c.args.rack.now) (g.R.Rack.state c.create.new.self) (g.R.Rack.state c.fill_file.new.rack) _ c.fill_file.result c.in_ok-create.ensures c.fill_file.ensures
 
-pub returns-in-Err : goal.returns-in-Err
-returns-in-Err g c = grind (arith, common_steps)
+pub returns-in_err-create : goal.returns-in_err-create
+returns-in_err-create g c = grind (arith, common_steps)

@@ -1,4 +1,5 @@
 -- read_tints: reads the next samples of a plate and turns them into tints, piece by piece.
+use Rattle.std.proofs.lemmas.Result.{err_from_is_err_and}
 use Rattle.std.proofs.Common.{◌≡◌, ◌+◌, ◌-◌, ◌≤◌, List, ℕ, Ok, Err, arith, length, sym, subst, take, drop}
 use Rattle.std.proofs.lemmas.Grind.{common_steps}
 use Rattle.std.proofs.lemmas.List.{length-take-le, take_all}
@@ -38,12 +39,14 @@ loop-filled-preserved g c =
     record {
       read = subst (λ (l : List ℕ). ReadsTints c.args.plate c.args.done l a d (Ok tt)) (filled_on buf part filled k want within all)
           (piece_turned c.args.plate c.args.done (take filled buf) a b c.loop-filled.invariant.read part d
-          (subst (λ (n : ℕ). ReadsTints c.args.plate (c.args.done + n) part b d (Ok tt)) (sym first) c.in-Ok.ensures.answer));
+          (subst (λ (n : ℕ). ReadsTints c.args.plate (c.args.done + n) part b d (Ok tt)) (sym first) c.in_ok-read_piece.ensures.answer));
       within = grind (arith, common_steps);
     }
 
-pub returns-in-Err-clause-answer : goal.returns-in-Err-clause-answer
-returns-in-Err-clause-answer g c =
+pub returns-in_err-read_piece-clause-answer : goal.returns-in_err-read_piece-clause-answer
+returns-in_err-read_piece-clause-answer g c =
+    let p = err_from_is_err_and c.from_residual.result c.from_residual.ensures.1 in
+    rw (p.1, p.2) (
     let filled = c.loop-filled.filled in
     let want = c.min-want.result in
     let buf = c.loop-filled.tints in
@@ -54,8 +57,9 @@ returns-in-Err-clause-answer g c =
     let d = g.T.Tray.state c.read_piece.new.tray in
     let now = put_mid filled (filled + want - filled) buf part in
     let few : length (take filled buf) + length part ≤ length now = grind (arith, common_steps) in
-    piece_refused c.args.plate c.args.done (take filled buf) a b c.loop-filled.invariant.read now (length part) d c.in-Err.common_error few
-    (subst (λ (n : ℕ). ReadsSome c.args.plate (c.args.done + n) (length part) b d (Err c.in-Err.common_error)) (sym first) c.in-Err.ensures.answer)
+    piece_refused c.args.plate c.args.done (take filled buf) a b c.loop-filled.invariant.read now (length part) d c.in_err-read_piece.field-0.0 few
+    (subst (λ (n : ℕ). ReadsSome c.args.plate (c.args.done + n) (length part) b d (Err c.in_err-read_piece.field-0.0)) (sym first) c.in_err-read_piece.ensures.answer)
+    )
 
 pub returns-clause-answer : goal.returns-clause-answer
 returns-clause-answer g c =
@@ -67,5 +71,5 @@ returns-clause-answer g c =
 pub loop-filled-init : goal.loop-filled-init
 loop-filled-init g c = grind (arith, common_steps)
 
-pub returns-in-Err-clause-memory : goal.returns-in-Err-clause-memory
-returns-in-Err-clause-memory g c = grind (arith, common_steps)
+pub returns-in_err-read_piece-clause-memory : goal.returns-in_err-read_piece-clause-memory
+returns-in_err-read_piece-clause-memory g c = grind (arith, common_steps)

@@ -12,14 +12,14 @@ use Rattle.ps_tokens.proofs.names.last_keys.Goals as goal
 pub returns : goal.returns
 unfolding last_keys_of
 returns c =
-    let named = c.in-Ok-by_name.named in
+    let named = c.in_ok-named.named in
     let objects = c.args.objects.now in
     let same : values named ≡ last_keys_of objects c.args.dict =
     places-by_bytes named.entries
     ∙ ap (map (λ e. e.1))
-    (c.in-Ok-by_name.ensures
+    (c.in_ok-named.ensures
     ∙ ap (λ all. fold (put_key all) [] c.deref.result.now) c.as_slice-all.ensures
-    ∙ ap (fold (put_key objects) []) (c.deref.ensures.value ∙ c.in-Ok.ensures)) in
+    ∙ ap (fold (put_key objects) []) (c.deref.ensures.value ∙ c.in_ok-keys.ensures)) in
     record {
       places = IfOk-weaker c.places_of.result (λ places. places.items ≡ values named) (λ places. places.items ≡ last_keys_of objects c.args.dict) (λ places e. e ∙ same) c.places_of.ensures;
       ascending =

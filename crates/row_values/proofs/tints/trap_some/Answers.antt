@@ -1,11 +1,11 @@
--- trap_some: traps so many samples of row y from x on, whose nearest arms stand at these places.
+-- trap_some: traps so many samples of a row from x on.
 use Rattle.std.proofs.lemmas.Grind.{common_steps}
 use Rattle.std.proofs.Common.{arith}
 use Rattle.row_values.proofs.RowLemmas.{kept_all}
 use Rattle.row_values.proofs.tints.trap_some.Goals as goal
 
 pub returns-then-are_quiet-clause-out : goal.returns-then-are_quiet-clause-out
-returns-then-are_quiet-clause-out c = kept_all c.args.page.now c.args.y c.args.x c.args.count c.args.out.now (c.are_quiet.ensures.only c.if-are_quiet.true) c.requires.out
+returns-then-are_quiet-clause-out c = kept_all c.args.page.now c.args.row.now.y c.args.x c.args.count c.args.out.now (c.are_quiet.ensures.only c.if-are_quiet.true) c.requires.out
 
 pub loop-k-init : goal.loop-k-init
 loop-k-init c = grind (arith, common_steps)

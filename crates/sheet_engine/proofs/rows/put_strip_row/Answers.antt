@@ -80,7 +80,7 @@ loop-j-preserved c =
     let long = core_long c.args.c strip c.args.k (tile_of w.column row) run c.row_of_core-run.ensures in
     let workspace : left + length run ≤ length out = omega (arith, fits, long, c.loop-j.invariant.long) in
     let column = column_at items j w w.column inside is in
-    let after = c.put_run.new.out in
+    let after = c.put_run.new.tints in
     let all : left + w.column.core ≡ left + length run = omega (arith, long) in
     let many : j < length columns = omega (arith, inside, length-map items (λ (w : WindowWorkspace). w.column)) in
     record {

@@ -3,5 +3,5 @@ use Rattle.std.proofs.Common.{◌∙◌}
 use Rattle.sheet_files.proofs.OutcomeLemmas.{planes_are}
 use Rattle.sheet_files.proofs.outcome.with_report.Goals as goal
 
-pub returns-in-Ok-clause-planes : goal.returns-in-Ok-clause-planes
-returns-in-Ok-clause-planes c = c.in-Ok.ensures ∙ planes_are c.args.sheet.now c.args.trapped.tints c.requires.count c.requires.tints
+pub returns-clause-planes : goal.returns-clause-planes
+returns-clause-planes c = c.in_ok-planes.ensures ∙ planes_are c.args.sheet.now c.args.trapped.tints c.requires.count c.requires.tints

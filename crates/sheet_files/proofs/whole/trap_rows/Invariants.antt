@@ -12,9 +12,9 @@ use Rattle.sheet_files.proofs.whole.trap_rows.Given as goal
 
 abbrev pub invariant-loop-row : goal.invariant-loop-row
 invariant-loop-row g l = record {
-  spans : AreSpans l.down l.at (drop l.row-index l.rows) (height l.sheet);
-  tints : AreTintsTo l.sheet l.at l.tints;
-  counts : AddsArea l.sheet 0 0 (width l.sheet) l.at l.fn.counts l.counts;
-  line : length l.line.items ≡ width l.sheet;
-  kept : IfSome l.kept (IsKept (form_of l.sheet) l.columns);
+  spans : AreSpans l.cut.down.now l.at (drop l.row-index l.cut.rows.now) (height l.sheet);
+  tints : AreTintsTo l.sheet l.at l.work.tints;
+  counts : AddsArea l.sheet 0 0 (width l.sheet) l.at l.fn.work.counts l.work.counts;
+  line : length l.work.line.items ≡ width l.sheet;
+  kept : IfSome l.kept (IsKept (form_of l.sheet) l.cut.columns.now);
 }

@@ -11,31 +11,31 @@ use Rattle.sheet_stream.proofs.TurnLemmas.{have_form}
 use Rattle.sheet_stream.proofs.ahead.read_row.Goals as goal
 
 pub turn_to-requires-clause-form : goal.turn_to-requires-clause-form
-turn_to-requires-clause-form g c = have_form c.args.outline.now c.requires.can.workspace.last c.args.ahead.now c.requires.can.workspace.is_strip
+turn_to-requires-clause-form g c = have_form c.args.sheet.now.outline.now c.requires.can.workspace.last c.args.ahead.now c.requires.can.workspace.is_strip
 
 pub read_ahead-requires-clause-alike : goal.read_ahead-requires-clause-alike
 read_ahead-requires-clause-alike g c =
     let may = c.requires.can in
     subst (λ (planes : List Plane). AreAlike c.args.strip.now.planes planes) (sym c.turn_to.ensures.planes)
-    (alike c.args.outline.now c.args.plan.now c.args.plates.now c.args.progress.now c.args.row.now may.can may.headers may.next c.args.strip.now may.at_hand c.args.ahead.now may.workspace)
+    (alike c.args.sheet.now.outline.now c.args.sheet.now.plan.now c.args.sheet.now.plates.now c.args.progress.now c.args.row.now may.can may.headers may.next c.args.strip.now may.at_hand c.args.ahead.now may.workspace)
 
 pub read_ahead-requires-clause-common : goal.read_ahead-requires-clause-common
 read_ahead-requires-clause-common g c =
-    let outline = c.args.outline.now in
+    let outline = c.args.sheet.now.outline.now in
     let may = c.requires.can in
     let plane = c.index-as_slice-0.result in
     let first = first_plane outline c.as_slice.result.now plane may.can.valid.parts.some_plates c.as_slice.ensures c.index-as_slice-0.is in
     let wide : (get_or c.as_slice.result.now 0 plane).width ≡ width outline = ap (λ (p : Plane). p.width) (sym c.index-as_slice-0.is ∙ first) in
-    common_within outline c.args.plan.now c.args.plates.now c.args.progress.now c.args.row.now may.can may.headers may.next c.args.strip.now may.at_hand (map g.T.Tray.state c.args.trays.now) may.there.inputs may.there.start may.there.holds (get_or c.as_slice.result.now 0 plane).width wide
+    common_within outline c.args.sheet.now.plan.now c.args.sheet.now.plates.now c.args.progress.now c.args.row.now may.can may.headers may.next c.args.strip.now may.at_hand (map g.T.Tray.state c.args.trays.now) may.there.inputs may.there.start may.there.holds (get_or c.as_slice.result.now 0 plane).width wide
 
 pub read_ahead-requires-clause-read : goal.read_ahead-requires-clause-read
 read_ahead-requires-clause-read g c =
-    let outline = c.args.outline.now in
+    let outline = c.args.sheet.now.outline.now in
     let may = c.requires.can in
     let plane = c.index-as_slice-0.result in
     let first = first_plane outline c.as_slice.result.now plane may.can.valid.parts.some_plates c.as_slice.ensures c.index-as_slice-0.is in
     let wide : (get_or c.as_slice.result.now 0 plane).width ≡ width outline = ap (λ (p : Plane). p.width) (sym c.index-as_slice-0.is ∙ first) in
-    read_there outline c.args.plan.now c.args.plates.now c.args.progress.now c.args.row.now may.can may.headers may.next c.args.strip.now may.at_hand (map g.T.Tray.state c.args.trays.now) may.there.inputs may.there.start may.there.holds (get_or c.as_slice.result.now 0 plane).width wide
+    read_there outline c.args.sheet.now.plan.now c.args.sheet.now.plates.now c.args.progress.now c.args.row.now may.can may.headers may.next c.args.strip.now may.at_hand (map g.T.Tray.state c.args.trays.now) may.there.inputs may.there.start may.there.holds (get_or c.as_slice.result.now 0 plane).width wide
     (c.from.result * c.from-2.result) (λ i. c.from.ensures i * c.from-2.ensures i)
 
 pub returns-clause-bytes : goal.returns-clause-bytes

@@ -7,7 +7,7 @@ use Rattle.sheet_stream.proofs.beside.write_and_read.Goals as goal
 
 pub read_row-requires-clause-can : goal.read_row-requires-clause-can
 read_row-requires-clause-can g c =
-    subst (CanReadRow c.args.outline.now c.args.plan.now c.args.plates.now c.args.progress.now c.args.next.now (map g.T.Tray.state c.args.trays.now) c.args.strip.now) (sym c.write_waiting.ensures.strip) c.requires.can
+    subst (CanReadRow c.args.sheet.now.outline.now c.args.sheet.now.plan.now c.args.sheet.now.plates.now c.args.around.now.progress c.args.around.now.next (map g.T.Tray.state c.args.trays.now) c.args.strip.now) (sym c.write_waiting.ensures.strip) c.requires.can
 
 pub write_waiting-requires-clause-waiting : goal.write_waiting-requires-clause-waiting
 write_waiting-requires-clause-waiting g c = c.requires.waiting

@@ -1,5 +1,6 @@
 -- write_core: writes the rows of the core of the strip that was trapped in the room last, each
 -- plate by the rack of its number: as many rows of all plates at once as there is room for.
+use Rattle.std.proofs.lemmas.Result.{err_from_is_err_and}
 use Rattle.std.proofs.lemmas.Grind.{common_steps}
 use Rattle.std.proofs.Common.{◌≡◌, ℕ, ◌+◌, ◌*◌, ◌≤◌, List, ◌++◌, drop, length, map, length-append, length-drop, length-take, Err, sym, subst, arith}
 use Rattle.std.specs.List.{All}
@@ -42,8 +43,10 @@ write_next-requires-clause-fits g c =
     (λ j l. subst (λ (rows : List ℕ). All (λ (t : ℕ). t ≤ maxval strip) rows) (sym (c.put_rows.ensures.rows j l)) (row_fits strip valid j ((cut.row.skip + k) * width strip) each l inside)) in
     subst (λ (m : ℕ). All (λ (t : ℕ). t ≤ m) line) (sym c.requires.maxval) fits
 
-pub returns-in-Err : goal.returns-in-Err
-returns-in-Err g c =
+pub returns-in_err-write_next : goal.returns-in_err-write_next
+returns-in_err-write_next g c =
+    let p = err_from_is_err_and c.from_residual.result c.from_residual.ensures.1 in
+    rw (p.1, p.2) (
     let strip = c.args.strip.now in
     let cut = c.args.cut.now in
     let n : ℕ = c.rows_at_once-n.result in
@@ -52,8 +55,9 @@ returns-in-Err g c =
     let b = map g.R.Rack.state c.write_next.new.racks in
     let test = c.loop-k-test.true in
     let few = c.rows_at_once-n.ensures.few in
-    let writes = subst (λ (m : ℕ). WritesNext m c.args.header (part_at (n * width strip) line) a b (Err c.in-Err.common_error)) c.plates-count.ensures.value (subst (λ (w : ℕ). WritesNext c.plates-count.result c.args.header (part_at (n * w) line) a b (Err c.in-Err.common_error)) c.width-wide.ensures.value c.in-Err.ensures) in
-    core_stops (plates strip) c.args.header strip cut c.loop-k.k n line (map g.R.Rack.state c.args.racks.now) a b c.in-Err.common_error c.rows_at_once-n.ensures.some (omega (arith, test, few)) c.loop-k.invariant.written c.put_rows.ensures.rows writes
+    let writes = subst (λ (m : ℕ). WritesNext m c.args.header (part_at (n * width strip) line) a b (Err c.in_err-write_next.field-0.0)) c.plates-count.ensures.value (subst (λ (w : ℕ). WritesNext c.plates-count.result c.args.header (part_at (n * w) line) a b (Err c.in_err-write_next.field-0.0)) c.width-wide.ensures.value c.in_err-write_next.ensures) in
+    core_stops (plates strip) c.args.header strip cut c.loop-k.k n line (map g.R.Rack.state c.args.racks.now) a b c.in_err-write_next.field-0.0 c.rows_at_once-n.ensures.some (omega (arith, test, few)) c.loop-k.invariant.written c.put_rows.ensures.rows writes
+    )
 
 pub loop-k-preserved : goal.loop-k-preserved
 loop-k-preserved g c =
@@ -66,7 +70,7 @@ loop-k-preserved g c =
     let rest : List ℕ = drop (c.plates-count.result * (n * c.width-wide.result)) c.loop-k.line in
     let test = c.loop-k-test.true in
     let few = c.rows_at_once-n.ensures.few in
-    let writes = rw (c.width-wide.ensures.value, c.plates-count.ensures.value) at c.in-Ok.ensures in
+    let writes = rw (c.width-wide.ensures.value, c.plates-count.ensures.value) at c.in_ok-write_next.ensures in
     record {
       inside = omega (arith, test, few);
       line_long = (let fit = c.rows_at_once-n.ensures.fits in

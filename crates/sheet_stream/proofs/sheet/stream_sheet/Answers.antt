@@ -11,9 +11,9 @@ use Rattle.sheet_stream.proofs.sheet.stream_sheet.Goals as goal
 
 pub write_sheet-requires-clause-headers : goal.write_sheet-requires-clause-headers
 write_sheet-requires-clause-headers g c κs within =
-    let inputs = map g.S.AsStr.text c.args.inputs.now in
-    let n : ℕ = length c.args.inputs.now in
-    let n_is : n ≡ length inputs = sym (length-map c.args.inputs.now g.S.AsStr.text) in
+    let inputs = map g.S.AsStr.text c.args.names.now.inputs.now in
+    let n : ℕ = length c.args.names.now.inputs.now in
+    let n_is : n ≡ length inputs = sym (length-map c.args.names.now.inputs.now g.S.AsStr.text) in
     let header = c.args.plan.now.header in
     let few : n ≤ 16 = (let a = c.requires.inputs in let b = c.requires.can.valid.parts.few_plates in omega (arith, a, b)) in
     let long = c.begin_plates.auto.plates in
@@ -22,9 +22,9 @@ write_sheet-requires-clause-headers g c κs within =
 
 pub write_sheet-requires-clause-read : goal.write_sheet-requires-clause-read
 write_sheet-requires-clause-read g c κs within =
-    let inputs = map g.S.AsStr.text c.args.inputs.now in
-    let n : ℕ = length c.args.inputs.now in
-    let n_is : n ≡ length inputs = sym (length-map c.args.inputs.now g.S.AsStr.text) in
+    let inputs = map g.S.AsStr.text c.args.names.now.inputs.now in
+    let n : ℕ = length c.args.names.now.inputs.now in
+    let n_is : n ≡ length inputs = sym (length-map c.args.names.now.inputs.now g.S.AsStr.text) in
     let header = c.args.plan.now.header in
     let few : n ≤ 16 = (let a = c.requires.inputs in let b = c.requires.can.valid.parts.few_plates in omega (arith, a, b)) in
     let long = c.begin_plates.auto.plates in
@@ -37,10 +37,10 @@ write_sheet-requires-clause-read g c κs within =
 
 pub returns-in-Ok : goal.returns-in-Ok
 returns-in-Ok g c =
-    let inputs = map g.S.AsStr.text c.args.inputs.now in
-    let outputs = map g.S.AsStr.text c.args.outputs.now in
-    let n : ℕ = length c.args.inputs.now in
-    let n_is : n ≡ length inputs = sym (length-map c.args.inputs.now g.S.AsStr.text) in
+    let inputs = map g.S.AsStr.text c.args.names.now.inputs.now in
+    let outputs = map g.S.AsStr.text c.args.names.now.outputs.now in
+    let n : ℕ = length c.args.names.now.inputs.now in
+    let n_is : n ≡ length inputs = sym (length-map c.args.names.now.inputs.now g.S.AsStr.text) in
     let header = c.args.plan.now.header in
     let few : n ≤ 16 = (let a = c.requires.inputs in let b = c.requires.can.valid.parts.few_plates in omega (arith, a, b)) in
     let long = c.begin_plates.auto.plates in
@@ -52,9 +52,9 @@ returns-in-Ok g c =
 
 pub returns-in-Err : goal.returns-in-Err
 returns-in-Err g c =
-    let inputs = map g.S.AsStr.text c.args.inputs.now in
-    let n : ℕ = length c.args.inputs.now in
-    let n_is : n ≡ length inputs = sym (length-map c.args.inputs.now g.S.AsStr.text) in
+    let inputs = map g.S.AsStr.text c.args.names.now.inputs.now in
+    let n : ℕ = length c.args.names.now.inputs.now in
+    let n_is : n ≡ length inputs = sym (length-map c.args.names.now.inputs.now g.S.AsStr.text) in
     let header = c.args.plan.now.header in
     let few : n ≤ 16 = (let a = c.requires.inputs in let b = c.requires.can.valid.parts.few_plates in omega (arith, a, b)) in
     inl (

@@ -1,4 +1,5 @@
 -- The first strip is trapped while the second one is read.
+use Rattle.std.proofs.lemmas.Result.{err_from_is_err_and}
 use Rattle.std.proofs.lemmas.Grind.{common_steps}
 use Rattle.std.proofs.Common.{◌∙◌, length, map, ap, arith}
 use Rattle.sheet_stream.specs.Going.{core_top, gone_on}
@@ -10,9 +11,9 @@ use Rattle.sheet_stream.proofs.step.trap_first.Goals as goal
 
 pub trap_and_read-requires-clause-trap : goal.trap_and_read-requires-clause-trap
 trap_and_read-requires-clause-trap g c κs within =
-    let outline = c.args.outline.now in
-    let plan = c.args.plan.now in
-    let begun = c.args.plates.now in
+    let outline = c.args.sheet.now.outline.now in
+    let plan = c.args.sheet.now.plan.now in
+    let begun = c.args.sheet.now.plates.now in
     let row = c.args.row.now in
     let old = c.args.workspace.now in
     let trays = map g.T.Tray.state c.args.trays.now in
@@ -34,9 +35,9 @@ trap_and_read-requires-clause-can g c κs within =
 
 pub change_places-requires : goal.change_places-requires
 change_places-requires g c =
-    let outline = c.args.outline.now in
-    let plan = c.args.plan.now in
-    let begun = c.args.plates.now in
+    let outline = c.args.sheet.now.outline.now in
+    let plan = c.args.sheet.now.plan.now in
+    let begun = c.args.sheet.now.plates.now in
     let row = c.args.row.now in
     let next = c.args.next.now in
     let old = c.args.workspace.now in
@@ -45,46 +46,48 @@ change_places-requires g c =
     let way = ask.way in
     let trays' = map g.T.Tray.state c.trap_and_read.new.trays in
     let mid = c.trap_and_read.new.workspace in
-    new_cuttable outline plan begun (gone_on row) next ask.can ask.headers ask.next old.strip ask.workspace.strip trays trays' mid.ahead way.course.inputs way.course.trays way.at.holds c.in-Ok.ensures.read
+    new_cuttable outline plan begun (gone_on row) next ask.can ask.headers ask.next old.strip ask.workspace.strip trays trays' mid.ahead way.course.inputs way.course.trays way.at.holds c.in_ok-trap_and_read.ensures.read
 
-pub returns-in-Ok-clause-workspace : goal.returns-in-Ok-clause-workspace
-returns-in-Ok-clause-workspace g c =
+pub returns-clause-workspace : goal.returns-clause-workspace
+returns-clause-workspace g c =
     let ask = c.requires in
     let did = c.trap_and_read.ensures in
     let put = c.change_places.ensures in
-    still_workspace c.args.outline.now c.args.plan.now c.args.plates.now c.args.row.now c.args.next.now ask.can ask.headers ask.row ask.next
+    still_workspace c.args.sheet.now.outline.now c.args.sheet.now.plan.now c.args.sheet.now.plates.now c.args.row.now c.args.next.now ask.can ask.headers ask.row ask.next
     c.args.workspace.now c.trap_and_read.new.workspace c.change_places.new.workspace ask.workspace
-    (map g.T.Tray.state c.args.trays.now) (map g.T.Tray.state c.trap_and_read.new.trays) ask.way.course ask.way.none ask.way.at did.trapped c.in-Ok.ensures.read
+    (map g.T.Tray.state c.args.trays.now) (map g.T.Tray.state c.trap_and_read.new.trays) ask.way.course ask.way.none ask.way.at did.trapped c.in_ok-trap_and_read.ensures.read
     put.strip (put.ahead ∙ did.strip) put.trapped
     (put.windows ∙ ap (λ (core : CoreWorkspace). core.windows) did.core) (put.line ∙ ap (λ (core : CoreWorkspace). length core.line.items) did.core) (put.bytes ∙ ap (λ (core : CoreWorkspace). length core.bytes.items) did.core) (put.pieces ∙ did.pieces)
 
-pub returns-in-Ok-clause-waiting : goal.returns-in-Ok-clause-waiting
-returns-in-Ok-clause-waiting g c =
+pub returns-clause-waiting : goal.returns-clause-waiting
+returns-clause-waiting g c =
     let ask = c.requires in
     let did = c.trap_and_read.ensures in
     let put = c.change_places.ensures in
-    waits c.args.outline.now c.args.plan.now c.args.plates.now c.args.row.now c.args.next.now ask.can ask.headers ask.row ask.next
+    waits c.args.sheet.now.outline.now c.args.sheet.now.plan.now c.args.sheet.now.plates.now c.args.row.now c.args.next.now ask.can ask.headers ask.row ask.next
     c.args.workspace.now c.trap_and_read.new.workspace c.change_places.new.workspace ask.workspace
-    (map g.T.Tray.state c.args.trays.now) (map g.T.Tray.state c.trap_and_read.new.trays) ask.way.course ask.way.none ask.way.at did.trapped c.in-Ok.ensures.read
+    (map g.T.Tray.state c.args.trays.now) (map g.T.Tray.state c.trap_and_read.new.trays) ask.way.course ask.way.none ask.way.at did.trapped c.in_ok-trap_and_read.ensures.read
     put.strip (put.ahead ∙ did.strip) put.trapped
     (put.line ∙ ap (λ (core : CoreWorkspace). length core.line.items) did.core) (put.bytes ∙ ap (λ (core : CoreWorkspace). length core.bytes.items) did.core)
 
-pub returns-in-Ok-clause-goes : goal.returns-in-Ok-clause-goes
-returns-in-Ok-clause-goes g c course none racks stands =
+pub returns-clause-goes : goal.returns-clause-goes
+returns-clause-goes g c course none racks stands =
     let ask = c.requires in
     let did = c.trap_and_read.ensures in
     let put = c.change_places.ensures in
-    awaits c.args.outline.now c.args.plan.now c.args.plates.now c.args.row.now c.args.next.now ask.can ask.headers ask.row ask.next
+    awaits c.args.sheet.now.outline.now c.args.sheet.now.plan.now c.args.sheet.now.plates.now c.args.row.now c.args.next.now ask.can ask.headers ask.row ask.next
     c.args.workspace.now c.trap_and_read.new.workspace c.change_places.new.workspace ask.workspace
-    (map g.T.Tray.state c.args.trays.now) (map g.T.Tray.state c.trap_and_read.new.trays) course none stands.at did.trapped c.in-Ok.ensures.read
+    (map g.T.Tray.state c.args.trays.now) (map g.T.Tray.state c.trap_and_read.new.trays) course none stands.at did.trapped c.in_ok-trap_and_read.ensures.read
     put.strip (put.ahead ∙ did.strip) put.trapped
     put.counts racks stands.written
 
-pub returns-in-Err-clause-goes : goal.returns-in-Err-clause-goes
-returns-in-Err-clause-goes g c course none racks stands =
-    let outline = c.args.outline.now in
-    let plan = c.args.plan.now in
-    let begun = c.args.plates.now in
+pub returns-in_err-trap_and_read-clause-goes : goal.returns-in_err-trap_and_read-clause-goes
+returns-in_err-trap_and_read-clause-goes g c =
+    let p = err_from_is_err_and c.from_residual.result c.from_residual.ensures.1 in
+    rw (p.1, p.2) (λ course none racks stands.
+    let outline = c.args.sheet.now.outline.now in
+    let plan = c.args.sheet.now.plan.now in
+    let begun = c.args.sheet.now.plates.now in
     let row = c.args.row.now in
     let next = c.args.next.now in
     let old = c.args.workspace.now in
@@ -93,7 +96,7 @@ returns-in-Err-clause-goes g c course none racks stands =
     let trays' = map g.T.Tray.state c.trap_and_read.new.trays in
     let mid = c.trap_and_read.new.workspace in
     record {
-      stops = reading_stops outline plan begun (gone_on row) next ask.can ask.headers ask.next old.strip ask.workspace.strip trays trays' mid.ahead course.inputs course.trays stands.at.holds c.in-Err.error c.in-Err.ensures.read;
+      stops = reading_stops outline plan begun (gone_on row) next ask.can ask.headers ask.next old.strip ask.workspace.strip trays trays' mid.ahead course.inputs course.trays stands.at.holds c.in_err-trap_and_read.field-0.0 c.in_err-trap_and_read.ensures.read;
       samples = stands.at.holds.samples;
       between = trays;
       read = stands.at.holds.read;
@@ -101,6 +104,7 @@ returns-in-Err-clause-goes g c course none racks stands =
       few = (let a = ask.row.span.core in let i = ask.row.span.inside in let t = ask.can.rulers.tall in omega (arith, a, i, t));
       written = stands.written;
     }
+    )
 
 pub trap_and_read-requires-clause-row : goal.trap_and_read-requires-clause-row
 trap_and_read-requires-clause-row g c = grind (arith, common_steps)

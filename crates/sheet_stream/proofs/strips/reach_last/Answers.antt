@@ -8,7 +8,7 @@ use Rattle.sheet_stream.proofs.strips.reach_last.Goals as goal
 
 pub trap_first-requires-clause-next : goal.trap_first-requires-clause-next
 trap_first-requires-clause-next g c κs within =
-    subst (λ (p : Progress). IsNextRow c.args.plan.now.down p c.next_row-second.result) c.progress_after-progress.ensures.value c.next_row-second.ensures.next
+    subst (λ (p : Progress). IsNextRow c.args.sheet.now.plan.now.down p c.next_row-second.result) c.progress_after-progress.ensures.value c.next_row-second.ensures.next
 
 pub trap_first-requires-clause-way : goal.trap_first-requires-clause-way
 trap_first-requires-clause-way g c κs within =
@@ -28,7 +28,7 @@ go_on-requires-clause-way g c κs within =
 pub returns-in-Ok-clause-reaches : goal.returns-in-Ok-clause-reaches
 returns-in-Ok-clause-reaches g c =
     let racks = map g.R.Rack.state c.args.racks.now in
-    reached c.args.outline.now c.args.plan.now c.args.plates.now c.args.first.now c.next_row-second.result (map g.T.Tray.state c.args.trays.now) (map g.T.Tray.state c.trap_first.new.trays) (map g.T.Tray.state c.go_on.new.trays) racks (map g.R.Rack.state c.go_on.new.racks) c.args.workspace.now c.trap_first.new.workspace c.go_on.new.workspace c.go_on.result c.go_on.ensures.reaches
+    reached c.args.sheet.now.outline.now c.args.sheet.now.plan.now c.args.sheet.now.plates.now c.args.first.now c.next_row-second.result (map g.T.Tray.state c.args.trays.now) (map g.T.Tray.state c.trap_first.new.trays) (map g.T.Tray.state c.go_on.new.trays) racks (map g.R.Rack.state c.go_on.new.racks) c.args.workspace.now c.trap_first.new.workspace c.go_on.new.workspace c.go_on.result c.go_on.ensures.reaches
     (λ course none stands. c.in-Ok.ensures.goes course none racks stands)
 
 pub returns-in-Err-clause-reaches : goal.returns-in-Err-clause-reaches

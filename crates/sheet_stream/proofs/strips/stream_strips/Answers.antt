@@ -22,7 +22,7 @@ stream_on-requires-clause-way g c κs within =
 pub returns-in-Ok : goal.returns-in-Ok
 returns-in-Ok g c =
     let racks = map g.R.Rack.state c.args.racks.now in
-    finished c.args.outline.now c.args.plan.now c.args.plates.now c.next_row-first.result c.args.workspace.now.counts (map g.T.Tray.state c.args.trays.now) (map g.T.Tray.state c.read_first.new.trays) (map g.T.Tray.state c.stream_on.new.trays) racks (map g.R.Rack.state c.stream_on.new.racks) c.read_first.new.workspace c.stream_on.new.workspace c.stream_on.result c.stream_on.ensures
+    finished c.args.sheet.now.outline.now c.args.sheet.now.plan.now c.args.sheet.now.plates.now c.next_row-first.result c.args.workspace.now.counts (map g.T.Tray.state c.args.trays.now) (map g.T.Tray.state c.read_first.new.trays) (map g.T.Tray.state c.stream_on.new.trays) racks (map g.R.Rack.state c.stream_on.new.racks) c.read_first.new.workspace c.stream_on.new.workspace c.stream_on.result c.stream_on.ensures
     (λ course starts. c.in-Ok.ensures.begins course racks starts)
 
 pub returns-in-Err : goal.returns-in-Err

@@ -3,5 +3,5 @@ use Rattle.std.proofs.Common.{arith}
 use Rattle.std.proofs.lemmas.Grind.{common_steps}
 use Rattle.trap_c.proofs.work.trap_window.Goals as goal
 
-pub returns-in-Ok-trapped_window : goal.returns-in-Ok-trapped_window
-returns-in-Ok-trapped_window c = grind (arith, common_steps)
+pub returns-in-Ok : goal.returns-in-Ok
+returns-in-Ok c = grind (arith, common_steps)

@@ -3,5 +3,5 @@ use Rattle.outside.proofs.Steps.{written_then_finished}
 use Rattle.trap_report.specs.Report.{report_of}
 use Rattle.trap_report.proofs.file.fill_report.Goals as goal
 
-pub returns-in-Ok : goal.returns-in-Ok
-returns-in-Ok g c = written_then_finished (report_of c.args.sheet.now c.args.counts.now) (g.R.Rack.state c.args.rack.now) (g.R.Rack.state c.write_lines.new.rack) (g.R.Rack.state c.finish.new.self) _ c.finish.result c.in-Ok.ensures c.finish.ensures
+pub returns : goal.returns
+returns g c = written_then_finished (report_of c.args.sheet.now c.args.counts.now) (g.R.Rack.state c.args.rack.now) (g.R.Rack.state c.write_lines.new.rack) (g.R.Rack.state c.finish.new.self) _ c.finish.result c.in_ok-write_lines.ensures c.finish.ensures

@@ -3,8 +3,8 @@ use Rattle.std.proofs.lemmas.Grind.{common_steps}
 use Rattle.std.proofs.Common.{arith}
 use Rattle.trap_set.proofs.bytes.next_byte.Goals as goal
 
-pub returns-in-Err-clause-byte : goal.returns-in-Err-clause-byte
-returns-in-Err-clause-byte c = grind (arith, common_steps)
+pub returns-in_err-count-clause-byte : goal.returns-in_err-count-clause-byte
+returns-in_err-count-clause-byte c = grind (arith, common_steps)
 
-pub returns-in-Ok-clause-byte : goal.returns-in-Ok-clause-byte
-returns-in-Ok-clause-byte c = grind (arith, common_steps)
+pub returns-clause-byte : goal.returns-clause-byte
+returns-clause-byte c = grind (arith, common_steps)

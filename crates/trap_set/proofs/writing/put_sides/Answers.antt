@@ -1,4 +1,5 @@
 -- put_sides: puts the first line, and the sides and the maxval of the second.
+use Rattle.std.proofs.lemmas.Result.{err_from_is_err_and}
 use Rattle.std.proofs.Common.{[], ◌∷◌, ◌++◌}
 use Rattle.std.specs.Prelude.{codes}
 use Rattle.std.specs.List.{flat_map}
@@ -6,10 +7,14 @@ use Rattle.trap_set.specs.SetText.{number, title_line}
 use Rattle.trap_set.proofs.HoldingLemmas.{puts_then, puts_failed}
 use Rattle.trap_set.proofs.writing.put_sides.Goals as goal
 
-pub returns-in-Ok : goal.returns-in-Ok
-returns-in-Ok g c = puts_then c.in-Ok.field-0 c.put_numbers.result (title_line ++ codes "page") (flat_map number (c.args.width ∷ c.args.height ∷ c.args.maxval ∷ [])) c.args.stored.now.items c.put.new.stored.items c.put_numbers.new.stored.items
-    (g.R.Rack.state c.args.rack.now) (g.R.Rack.state c.put.new.rack) (g.R.Rack.state c.put_numbers.new.rack) c.in-Ok.ensures c.put_numbers.ensures
+pub returns : goal.returns
+returns g c = puts_then c.in_ok-put.field-0 c.put_numbers.result (title_line ++ codes "page") (flat_map number (c.args.width ∷ c.args.height ∷ c.args.maxval ∷ [])) c.args.stored.now.items c.put.new.stored.items c.put_numbers.new.stored.items
+    (g.R.Rack.state c.args.rack.now) (g.R.Rack.state c.put.new.rack) (g.R.Rack.state c.put_numbers.new.rack) c.in_ok-put.ensures c.put_numbers.ensures
 
-pub returns-in-Err : goal.returns-in-Err
-returns-in-Err g c = puts_failed c.in-Err.field-0 _ (title_line ++ codes "page") (flat_map number (c.args.width ∷ c.args.height ∷ c.args.maxval ∷ [])) c.args.stored.now.items c.put.new.stored.items c.put.new.stored.items
-    (g.R.Rack.state c.args.rack.now) (g.R.Rack.state c.put.new.rack) c.in-Err.ensures
+pub returns-in_err-put : goal.returns-in_err-put
+returns-in_err-put g c =
+    let p = err_from_is_err_and c.from_residual.result c.from_residual.ensures.1 in
+    rw p.1 (
+    puts_failed c.in_err-put.field-0.0 _ (title_line ++ codes "page") (flat_map number (c.args.width ∷ c.args.height ∷ c.args.maxval ∷ [])) c.args.stored.now.items c.put.new.stored.items c.put.new.stored.items
+    (g.R.Rack.state c.args.rack.now) (g.R.Rack.state c.put.new.rack) c.in_err-put.ensures
+    )

@@ -1,4 +1,5 @@
 -- What `put_whole` has to show.
+use Rattle.std.proofs.lemmas.Result.{err_from_is_err_and}
 use Rattle.std.proofs.Common.{ℕ, List, Bor, map, sym, ◌∙◌}
 use Rattle.trapsheet_cli.specs.Stored.{order_in}
 use Rattle.trapsheet_cli.specs.Planned.{PutsWhole}
@@ -12,8 +13,8 @@ put_out-requires-clause-can g c κs alive =
     let before = map g.T.Tray.state c.args.trays.now in
     let after = map g.T.Tray.state c.hold.new.trays in
     let outline = c.args.planned.now.outline in
-    let known = stored_sheet inputs outline c.in-Ok.parts before after c.requires.valid c.requires.blank (stored_in inputs outline c.in-Ok.parts before after c.in-Ok.ensures) in
-    c.requires.can.can c.in-Ok.parts known.valid known.same
+    let known = stored_sheet inputs outline c.in_ok-parts.parts before after c.requires.valid c.requires.blank (stored_in inputs outline c.in_ok-parts.parts before after c.in_ok-parts.ensures) in
+    c.requires.can.can c.in_ok-parts.parts known.valid known.same
 
 pub put_out-requires-clause-sheet : goal.put_out-requires-clause-sheet
 put_out-requires-clause-sheet g c κs alive =
@@ -21,7 +22,7 @@ put_out-requires-clause-sheet g c κs alive =
     let before = map g.T.Tray.state c.args.trays.now in
     let after = map g.T.Tray.state c.hold.new.trays in
     let outline = c.args.planned.now.outline in
-    (stored_sheet inputs outline c.in-Ok.parts before after c.requires.valid c.requires.blank (stored_in inputs outline c.in-Ok.parts before after c.in-Ok.ensures)).valid
+    (stored_sheet inputs outline c.in_ok-parts.parts before after c.requires.valid c.requires.blank (stored_in inputs outline c.in_ok-parts.parts before after c.in_ok-parts.ensures)).valid
 
 pub put_out-requires-clause-count : goal.put_out-requires-clause-count
 put_out-requires-clause-count g c κs alive =
@@ -29,14 +30,17 @@ put_out-requires-clause-count g c κs alive =
     let before = map g.T.Tray.state c.args.trays.now in
     let after = map g.T.Tray.state c.hold.new.trays in
     let outline = c.args.planned.now.outline in
-    stored_plates outline c.in-Ok.parts (stored_sheet inputs outline c.in-Ok.parts before after c.requires.valid c.requires.blank (stored_in inputs outline c.in-Ok.parts before after c.in-Ok.ensures)) ∙ sym c.requires.count
+    stored_plates outline c.in_ok-parts.parts (stored_sheet inputs outline c.in_ok-parts.parts before after c.requires.valid c.requires.blank (stored_in inputs outline c.in_ok-parts.parts before after c.in_ok-parts.ensures)) ∙ sym c.requires.count
 
-pub returns-in-Ok : goal.returns-in-Ok
-returns-in-Ok g c =
+pub returns : goal.returns
+returns g c =
     let inputs = map (λ (f : Bor (List ℕ)). f.now) c.args.inputs.now in
-    PutsWhole.stored c.in-Ok.parts (stored_in inputs c.args.planned.now.outline c.in-Ok.parts (map g.T.Tray.state c.args.trays.now) (map g.T.Tray.state c.hold.new.trays) c.in-Ok.ensures) c.put_out.ensures
+    PutsWhole.stored c.in_ok-parts.parts (stored_in inputs c.args.planned.now.outline c.in_ok-parts.parts (map g.T.Tray.state c.args.trays.now) (map g.T.Tray.state c.hold.new.trays) c.in_ok-parts.ensures) c.put_out.ensures
 
-pub returns-in-Err : goal.returns-in-Err
-returns-in-Err g c =
+pub returns-in_err-parts : goal.returns-in_err-parts
+returns-in_err-parts g c =
+    let p = err_from_is_err_and c.from_residual.result c.from_residual.ensures.1 in
+    rw (p.1, p.2) (
     let inputs = map (λ (f : Bor (List ℕ)). f.now) c.args.inputs.now in
-    not_stored (targets_of (order_in c.args.order.now)) inputs c.args.planned.now.outline (map g.T.Tray.state c.args.trays.now) (map g.T.Tray.state c.hold.new.trays) (map g.R.Rack.state c.args.racks.now) c.in-Err.error c.in-Err.ensures
+    not_stored (targets_of (order_in c.args.order.now)) inputs c.args.planned.now.outline (map g.T.Tray.state c.args.trays.now) (map g.T.Tray.state c.hold.new.trays) (map g.R.Rack.state c.args.racks.now) c.in_err-parts.field-0.0 c.in_err-parts.ensures
+    )

@@ -1,0 +1,8 @@
+use Rattle.std.proofs.Common.{◌≡◌}
+use Rattle.lists.specs.Words.{list_below}
+use Rattle.keep_pages.specs.declared.uses.KeepUse.TheVariants.{UnderBlack}
+use Rattle.keep_pages.specs.KeptPages.{kept_plane}
+use Rattle.keep_pages.proofs.planes.planes_under_black.Given as goal
+
+abbrev pub invariant-loop-c : goal.invariant-loop-c
+invariant-loop-c l = l.planes ≡ list_below (kept_plane l.page (UnderBlack l.rich)) l.c

@@ -1,7 +1,0 @@
--- put_run: goals that the search finds slowly.
-use Rattle.std.proofs.lemmas.Grind.{common_steps}
-use Rattle.std.proofs.Common.{arith}
-use Rattle.sheet_engine.proofs.rows.put_run.Goals as goal
-
-pub returns : goal.returns
-returns c = grind (arith, common_steps)

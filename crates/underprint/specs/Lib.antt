@@ -1,0 +1,3 @@
+pub mod Underprint
+pub mod Laws
+pub mod Lists

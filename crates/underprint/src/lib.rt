@@ -1,0 +1,16 @@
+//! Keepaway for underprints: under colour, a white is drawn back from where the colour ends.
+#![tactic(auto)]
+
+mod colour;
+mod cover;
+pub mod laws;
+mod parts;
+mod plate;
+mod thick;
+mod way;
+mod widths;
+
+pub use cover::cover_of;
+pub use parts::{White, WhiteList};
+pub use plate::draw_plate;
+pub use way::Way;
