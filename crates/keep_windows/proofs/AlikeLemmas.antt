@@ -1,12 +1,12 @@
 -- What a pixel of a window has in common with its pixel of the sheet: how black it is, and whether it is open.
-use Rattle.std.proofs.Common.{◌≡◌, ℕ, zero, suc, ◌+◌, ◌*◌, ◌<◌, ◌≤◌, ◌==◌, Bool, true, false, ◌&&◌, ◌||◌, not, nat_le, nat_lt, max, length, refl, sym, ap, ◌∙◌, arith, if◌then◌else◌}
+use Rattle.std.proofs.Common.{◌≡◌, ℕ, zero, suc, Bool, ◌&&◌, not, nat_le, nat_lt, refl, ap, ◌∙◌, if◌then◌else◌}
 use Rattle.lists.specs.Words.{any_below, greatest_below}
 use Rattle.page_model.specs.declared.parts.At.{At}
 use Rattle.page_model.specs.declared.parts.PageParts.{PageParts}
 use Rattle.page_model.specs.declared.parts.TrapParams.{TrapParams}
 use Rattle.page_model.specs.declared.parts.Zone.{Zone}
 use Rattle.page_model.specs.Density.{shut, shuts, spreads}
-use Rattle.page_model.specs.Page.{height, ink_at, maxval, params_at, plates, tint, width}
+use Rattle.page_model.specs.Page.{ink_at, maxval, params_at, plates, tint}
 use Rattle.page_model.specs.Zones.{zone_of}
 use Rattle.sheet_geometry.specs.declared.cuts.Cut.{Cut}
 use Rattle.sheet_geometry.specs.Windows.{IsCut, on_sheet, window}

@@ -1,2 +1,9 @@
 pub mod AlikeLemmas
+pub mod ColourLemmas
+pub mod PlaceLemmas
+pub mod SceneLemmas
+pub mod ThickLemmas
+pub mod TouchLemmas
+pub mod UnderLemmas
 pub mod WindowLemmas
+pub mod WorkedWindows

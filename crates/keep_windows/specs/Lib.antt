@@ -1,1 +1,2 @@
 pub mod KeepWindows
+pub mod UnderWindows
