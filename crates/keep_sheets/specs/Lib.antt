@@ -1,0 +1,2 @@
+pub mod KeepSheets
+pub mod KeepSums
