@@ -1,5 +1,5 @@
 -- Counts of keepaway that grow by what is counted in a core.
-use Rattle.std.specs.Prelude.{◌≡◌, ℕ, ◌+◌, ◌*◌, ◌<◌, ◌≤◌, ◌^◌, ◌==◌, not, List, length, slice_index}
+use Rattle.std.specs.Prelude.{◌≡◌, ℕ, ◌+◌, ◌*◌, ◌<◌, ◌^◌, ◌==◌, not, List, length, slice_index}
 use Rattle.page_model.specs.declared.parts.PageParts.{PageParts}
 use Rattle.page_model.specs.Page.{height, plates, width}
 use Rattle.sheet_geometry.specs.declared.cuts.Cut.{Cut}
@@ -14,11 +14,6 @@ pub record AreMarks (page : PageParts) (used : KeepUse) (marks : List ℕ) : Typ
   pub each : (x y : ℕ) → x < width page → y < height page
       → not (slice_index marks (y * width page + x) == 0)
       ≡ covered page used (record { x = x; y = y })
-
--- a core lies on its page
-pub record LiesOn (page : PageParts) (core : Cut) : Type 0 where
-  pub across : core.left + core.width ≤ width page
-  pub down : core.top + core.height ≤ height page
 
 -- each count may grow by so much
 pub record HasRoom (page : PageParts) (more : ℕ) (counts : KeepCounts) : Type 0 where

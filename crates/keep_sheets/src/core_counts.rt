@@ -5,9 +5,10 @@ ghost use Rattle.lists.specs.Words.{sum_below};
 ghost use Rattle.page_model.specs.Page.{height, plates, width};
 ghost use Rattle.page_model.specs.Planes.{tints_of};
 ghost use Rattle.sheet_geometry.specs.Areas.{one_if as bit_of};
+ghost use Rattle.sheet_geometry.specs.Covers.{IsOnSheet};
 ghost use Rattle.keep_pages.specs.KeptPages.{kept_planes, kept_tints};
 ghost use Rattle.keep_sheets.specs.KeepSheets.{changes_at, core_sum, covers_at};
-ghost use Rattle.keep_sheets.specs.KeepSums.{AddsKept, AreMarks, HasRoom, LiesOn};
+ghost use Rattle.keep_sheets.specs.KeepSums.{AddsKept, AreMarks, HasRoom};
 
 use crate::counts::KeepCounts;
 use keep_pages::KeepUse;
@@ -42,7 +43,7 @@ fn marked(marks: &[u8], from: usize, count: usize) -> u64
 /// How many pixels of row k of a core are covered.
 fn covered_in_row(page: &Page, used: &KeepUse, marks: &[u8], core: &Cut, k: u32) -> u64
     requires marks { AreMarks page.now used.now marks.now }
-    requires core { LiesOn page.now core.now }
+    requires core { IsOnSheet page.now core.now }
     requires row { k < core.now.height }
     ensures count { result ≡ sum_below (λ x. covers_at used.now page.now
         (record { x = core.now.left + x; y = core.now.top + k })) core.now.width }
@@ -56,7 +57,7 @@ fn covered_in_row(page: &Page, used: &KeepUse, marks: &[u8], core: &Cut, k: u32)
 /// How many pixels of a core are covered.
 fn covered_in(page: &Page, used: &KeepUse, marks: &[u8], core: &Cut) -> u64
     requires marks { AreMarks page.now used.now marks.now }
-    requires core { LiesOn page.now core.now }
+    requires core { IsOnSheet page.now core.now }
     ensures count { result ≡ core_sum (covers_at used.now page.now) core.now }
     ensures few { result ≤ core.now.width * core.now.height }
 {
@@ -82,7 +83,7 @@ fn run_of(tints: &[u16], from: usize, count: usize) -> &[u16]
 fn changed_in_row(page: &Page, used: &KeepUse, tints: &[u16], c: u32, core: &Cut, k: u32) -> u64
     requires tints { tints.now ≡ kept_tints page.now used.now c }
     requires plate { c < plates page.now }
-    requires core { LiesOn page.now core.now }
+    requires core { IsOnSheet page.now core.now }
     requires row { k < core.now.height }
     ensures count { result ≡ sum_below (λ x. changes_at used.now c page.now
         (record { x = core.now.left + x; y = core.now.top + k })) core.now.width }
@@ -101,7 +102,7 @@ fn changed_in_row(page: &Page, used: &KeepUse, tints: &[u16], c: u32, core: &Cut
 fn changed_in(page: &Page, used: &KeepUse, tints: &[u16], c: u32, core: &Cut) -> u64
     requires tints { tints.now ≡ kept_tints page.now used.now c }
     requires plate { c < plates page.now }
-    requires core { LiesOn page.now core.now }
+    requires core { IsOnSheet page.now core.now }
     ensures count { result ≡ core_sum (changes_at used.now c page.now) core.now }
     ensures few { result ≤ core.now.width * core.now.height }
 {
@@ -124,7 +125,7 @@ fn tints_at(planes: &[Plane], c: u32) -> &[u16]
 /// Adds for each plate how many pixels of a core have another tint than before.
 fn add_changes(page: &Page, used: &KeepUse, planes: &[Plane], core: &Cut, changed: &mut [u64])
     requires planes { planes.now ≡ kept_planes page.now used.now }
-    requires core { LiesOn page.now core.now }
+    requires core { IsOnSheet page.now core.now }
     requires long { length changed.old ≡ plates page.now }
     requires room { (c : ℕ) → c < plates page.now
         → slice_index changed.old c + core.now.width * core.now.height < 2 ^ 64 }
@@ -150,7 +151,7 @@ pub fn add_core(
 )
     requires marks { AreMarks page.now used.now marks.now }
     requires planes { planes.now ≡ kept_planes page.now used.now }
-    requires core { LiesOn page.now core.now }
+    requires core { IsOnSheet page.now core.now }
     requires room { HasRoom page.now (core.now.width * core.now.height) counts.old }
     ensures { AddsKept page.now used.now core.now counts.old counts.new }
 {
