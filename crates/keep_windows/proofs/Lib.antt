@@ -1,6 +1,7 @@
 pub mod AlikeLemmas
 pub mod ColourLemmas
 pub mod PlaceLemmas
+pub mod RuleLemmas
 pub mod SceneLemmas
 pub mod ThickLemmas
 pub mod TouchLemmas

@@ -39,7 +39,7 @@ followed_in {most} resolution (w ∷ ws) name wide all e = elim (first_or_rest (
 reach_less : (reach halo : ℕ) → 1 ≤ halo → (3 * reach + 719999) / 720000 ≤ halo → reach + 360000 < halo * 720000
 reach_less reach halo some most = omega arith
 
-square_less : (reach halo side : ℕ) → 0 < side → reach < halo * side → (reach * reach) / (side * side) < halo * halo
+pub square_less : (reach halo side : ℕ) → 0 < side → reach < halo * side → (reach * reach) / (side * side) < halo * halo
 square_less reach halo side some less = (div-lt_iff_lt-mul (mul-lt 0 0 side side some some)).1
     (subst (λ (n : ℕ). reach * reach < n) (mul-mul-mul_comm halo side halo side) (mul-lt reach reach (halo * side) (halo * side) less less))
 

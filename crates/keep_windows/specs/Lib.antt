@@ -1,2 +1,3 @@
 pub mod KeepWindows
 pub mod UnderWindows
+pub mod KeepRules

@@ -7,6 +7,8 @@ ghost use Rattle.sheet_geometry.specs.declared.cuts.Cut.{Cut};
 ghost use Rattle.sheet_geometry.specs.Windows.{IsCut};
 ghost use Rattle.keepaway.specs.declared.parts.RichBlack.{RichBlack};
 ghost use Rattle.keepaway.specs.Keepaway.{near_limit};
+ghost use Rattle.sheet_geometry.specs.PageRules.{IsLocal};
+ghost use Rattle.keep_windows.specs.KeepRules.{under_black, under_colour};
 ghost use Rattle.keep_windows.specs.KeepWindows.{KeepWindowLaw};
 ghost use Rattle.keep_windows.specs.UnderWindows.{UnderWindowLaw};
 ghost use Rattle.underprint.specs.declared.parts.White.{White};
@@ -26,4 +28,10 @@ pub fn under_window_law()
     ensures { (sheet : PageParts) (cut : Cut) (whites : List White) (halo : ℕ) → IsCut sheet cut → 1 ≤ halo
         → All (λ (white : White). followed white.width sheet.resolution ≤ halo) whites
         → UnderWindowLaw sheet cut whites halo }
+{}
+
+/// Keepaway is a local rule: under black with a halo of the width and one pixel, under colour with one of three widths.
+pub fn keep_rules_law()
+    ensures black { (rich : RichBlack) → IsLocal (under_black rich) }
+    ensures colour { (whites : List White) → IsLocal (under_colour whites) }
 {}

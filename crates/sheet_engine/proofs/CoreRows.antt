@@ -11,6 +11,7 @@ use Rattle.lists.proofs.ListBelow.{list_below-from}
 use Rattle.page_model.specs.Page.{height, plates, width}
 use Rattle.page_model.specs.Planes.{no_plane, plane_at}
 use Rattle.page_model.specs.Tints.{new, trapped_planes}
+use Rattle.sheet_geometry.specs.Areas.{traps}
 use Rattle.sheet_geometry.specs.Tiles.{IsCore, Tile, core_row, strip_row}
 use Rattle.sheet_geometry.specs.Windows.{IsCut, window}
 use Rattle.sheet_geometry.proofs.Parts.{height-is, plates-same, width-is}
@@ -24,7 +25,7 @@ row_lies wide high left core top rows k count across down l e =
     let t : (top + k + 1) * wide ≤ high * wide = mul-le-mul (omega (arith, down, l)) (omega arith) in
     omega (arith, t, e, across)
 
-module _ (sheet : PageParts) (tile : Tile) (is : IsCut sheet tile.cut) (core : IsCore sheet tile.cut tile.core) (planes : List Plane) (whole : planes ≡ trapped_planes (window sheet tile.cut)) where
+module _ (near : ℕ) (sheet : PageParts) (tile : Tile) (is : IsCut sheet tile.cut) (core : IsCore near sheet tile.cut tile.core) (planes : List Plane) (whole : planes ≡ trapped_planes (window sheet tile.cut)) where
   trapped : AreTrappedTo (window sheet tile.cut) planes (height (window sheet tile.cut) * width (window sheet tile.cut))
   trapped = are_trapped (window sheet tile.cut) planes whole
 
@@ -48,16 +49,16 @@ module _ (sheet : PageParts) (tile : Tile) (is : IsCut sheet tile.cut) (core : I
       ∙ (trapped.each c (let e = plates-same sheet tile.cut in omega (arith, l, e))).done ((tile.core.top + k) * w + (tile.core.left + x)) inside
       ∙ ap (λ (p : At). new (window sheet tile.cut) p c) (numbered (window sheet tile.cut) (tile.core.top + k) (tile.core.left + x) column)
 
-  pub row_is : (c k : ℕ) (row : List ℕ) → c < plates sheet → k < tile.core.height → length row ≡ tile.core.width → ((x : ℕ) → x < tile.core.width → slice_index row x ≡ slice_index (plane_at planes c).tints ((tile.core.top + k) * tile.cut.width + tile.core.left + x)) → row ≡ core_row c sheet k tile
+  pub row_is : (c k : ℕ) (row : List ℕ) → c < plates sheet → k < tile.core.height → length row ≡ tile.core.width → ((x : ℕ) → x < tile.core.width → slice_index row x ≡ slice_index (plane_at planes c).tints ((tile.core.top + k) * tile.cut.width + tile.core.left + x)) → row ≡ core_row traps c sheet k tile
   row_is c k row l lk long each = list_below-from (λ x. new (window sheet tile.cut) (record { x = tile.core.left + x; y = tile.core.top + k }) c) tile.core.width row long (λ x lx. each x lx ∙ at_core c k x l lk lx)
 
 -- one more tile
-row_push : (c : ℕ) (sheet : PageParts) (y : ℕ) (tiles : List Tile) (tile : Tile) → strip_row c sheet y (tiles ++ tile ∷ []) ≡ strip_row c sheet y tiles ++ core_row c sheet y tile
-row_push c sheet y [] tile = append-nil (core_row c sheet y tile)
-row_push c sheet y (t ∷ ts) tile = ap (λ (xs : List ℕ). core_row c sheet y t ++ xs) (row_push c sheet y ts tile) ∙ sym (append_assoc (core_row c sheet y t) (strip_row c sheet y ts) (core_row c sheet y tile))
+row_push : (c : ℕ) (sheet : PageParts) (y : ℕ) (tiles : List Tile) (tile : Tile) → strip_row traps c sheet y (tiles ++ tile ∷ []) ≡ strip_row traps c sheet y tiles ++ core_row traps c sheet y tile
+row_push c sheet y [] tile = append-nil (core_row traps c sheet y tile)
+row_push c sheet y (t ∷ ts) tile = ap (λ (xs : List ℕ). core_row traps c sheet y t ++ xs) (row_push c sheet y ts tile) ∙ sym (append_assoc (core_row traps c sheet y t) (strip_row traps c sheet y ts) (core_row traps c sheet y tile))
 
-pub row_more : {X : Type 0} (c : ℕ) (sheet : PageParts) (y : ℕ) (f : X → Tile) (columns : List X) (j : ℕ) (d : X) → j < length columns → strip_row c sheet y (map f (take (j + 1) columns)) ≡ strip_row c sheet y (map f (take j columns)) ++ core_row c sheet y (f (get_or columns j d))
-row_more c sheet y f columns j d l = ap (strip_row c sheet y) (map_more f columns j d l) ∙ row_push c sheet y (map f (take j columns)) (f (get_or columns j d))
+pub row_more : {X : Type 0} (c : ℕ) (sheet : PageParts) (y : ℕ) (f : X → Tile) (columns : List X) (j : ℕ) (d : X) → j < length columns → strip_row traps c sheet y (map f (take (j + 1) columns)) ≡ strip_row traps c sheet y (map f (take j columns)) ++ core_row traps c sheet y (f (get_or columns j d))
+row_more c sheet y f columns j d l = ap (strip_row traps c sheet y) (map_more f columns j d l) ∙ row_push c sheet y (map f (take j columns)) (f (get_or columns j d))
 
 any_default : {X : Type 0} (xs : List X) (k : ℕ) (d e : X) → k < length xs → get_or xs k d ≡ get_or xs k e
 any_default [] k d e l = absurd (omega (arith, l))

@@ -8,7 +8,7 @@ use Rattle.page_model.specs.Counts.{plate_changes, sample_changes}
 use Rattle.page_model.specs.Deciding.{lower_mark, right_mark}
 use Rattle.page_model.specs.Page.{plates}
 use Rattle.page_model.specs.Zones.{zone_of}
-use Rattle.sheet_geometry.specs.Areas.{area_sum, changes_in, changes_plate, edges_at, lies_in, one_if}
+use Rattle.sheet_geometry.specs.Areas.{area_sum, changes_in, changes_plate, edges_at, lies_in, one_if, traps}
 use Rattle.sheet_engine.proofs.RowSums.{one_few, row_few}
 use Rattle.sheet_engine.specs.Growth.{AddsArea, AddsRow, Grows, HasWorkspace, HasWorkspaces, row_sum}
 use Rattle.sheet_engine.specs.declared.counts.SheetCounts.{SheetCounts}
@@ -33,8 +33,8 @@ grows_nothing n left top wide f counts = record { long = refl; each = λ z l. om
 pub area_none : (page : PageParts) (left top wide : ℕ) (counts : SheetCounts) → AddsArea page left top wide 0 counts counts
 area_none page left top wide counts = record {
   zone_samples = grows_nothing (length page.zones) left top wide (λ z. lies_in z page) counts.zone_samples.items;
-  zone_changed = grows_nothing (length page.zones) left top wide (λ z. changes_in z page) counts.zone_changed.items;
-  plate_changed = grows_nothing (plates page) left top wide (λ c. changes_plate c page) counts.plate_changed.items;
+  zone_changed = grows_nothing (length page.zones) left top wide (λ z. changes_in traps z page) counts.zone_changed.items;
+  plate_changed = grows_nothing (plates page) left top wide (λ c. changes_plate traps c page) counts.plate_changed.items;
   edges = omega arith;
 }
 
@@ -42,8 +42,8 @@ area_none page left top wide counts = record {
 pub area_next : (page : PageParts) (left top wide k : ℕ) (before mid after : SheetCounts) → AddsArea page left top wide k before mid → AddsRow page (top + k) left wide mid after → AddsArea page left top wide (k + 1) before after
 area_next page left top wide k before mid after a b = record {
   zone_samples = grows_area (length page.zones) left top wide k (λ z. lies_in z page) before.zone_samples.items mid.zone_samples.items after.zone_samples.items a.zone_samples b.zone_samples;
-  zone_changed = grows_area (length page.zones) left top wide k (λ z. changes_in z page) before.zone_changed.items mid.zone_changed.items after.zone_changed.items a.zone_changed b.zone_changed;
-  plate_changed = grows_area (plates page) left top wide k (λ c. changes_plate c page) before.plate_changed.items mid.plate_changed.items after.plate_changed.items a.plate_changed b.plate_changed;
+  zone_changed = grows_area (length page.zones) left top wide k (λ z. changes_in traps z page) before.zone_changed.items mid.zone_changed.items after.zone_changed.items a.zone_changed b.zone_changed;
+  plate_changed = grows_area (plates page) left top wide k (λ c. changes_plate traps c page) before.plate_changed.items mid.plate_changed.items after.plate_changed.items a.plate_changed b.plate_changed;
   edges = (let s = a.edges in let t = b.edges in
       let more : area_sum (edges_at page) left top wide (k + 1) ≡ area_sum (edges_at page) left top wide k + row_sum (edges_at page) (top + k) left wide = rw add-one refl in
       omega (arith, s, t, more));

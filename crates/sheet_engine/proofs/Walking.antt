@@ -9,7 +9,7 @@ use Rattle.page_model.specs.Page.{plates}
 use Rattle.page_model.specs.Zones.{zone_of}
 use Rattle.sheet_geometry.specs.declared.spans.Ruler.{Ruler}
 use Rattle.sheet_geometry.specs.declared.spans.Span.{Span}
-use Rattle.sheet_geometry.specs.Areas.{area_sum, changes_in, changes_plate, edges_at, lies_in, one_if}
+use Rattle.sheet_geometry.specs.Areas.{area_sum, changes_in, changes_plate, edges_at, lies_in, one_if, traps}
 use Rattle.sheet_geometry.proofs.Areas.{area-no_columns}
 use Rattle.sheet_geometry.specs.Spans.{AreSpans, IsSpan}
 use Rattle.sheet_engine.specs.Growth.{AddsArea, Grows, HasWorkspace, HasWorkspaces}
@@ -27,8 +27,8 @@ nothing_grows n top rows f counts = record { long = refl; each = λ z l. (let e 
 pub nothing_added : (sheet : PageParts) (top rows : ℕ) (counts : SheetCounts) → AddsArea sheet 0 top 0 rows counts counts
 nothing_added sheet top rows counts = record {
   zone_samples = nothing_grows (length sheet.zones) top rows (λ z. lies_in z sheet) counts.zone_samples.items;
-  zone_changed = nothing_grows (length sheet.zones) top rows (λ z. changes_in z sheet) counts.zone_changed.items;
-  plate_changed = nothing_grows (plates sheet) top rows (λ c. changes_plate c sheet) counts.plate_changed.items;
+  zone_changed = nothing_grows (length sheet.zones) top rows (λ z. changes_in traps z sheet) counts.zone_changed.items;
+  plate_changed = nothing_grows (plates sheet) top rows (λ c. changes_plate traps c sheet) counts.plate_changed.items;
   edges = (let e = area-no_columns (edges_at sheet) 0 top rows in omega (arith, e));
 }
 

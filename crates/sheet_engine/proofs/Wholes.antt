@@ -13,19 +13,21 @@ use Rattle.page_model.specs.Tints.{new, new_tints}
 use Rattle.page_model.specs.Zones.{zone_of}
 use Rattle.sheet_geometry.specs.declared.spans.Ruler.{Ruler}
 use Rattle.sheet_geometry.specs.declared.spans.Span.{Span}
-use Rattle.sheet_geometry.specs.Areas.{area_sum, changes_in, changes_plate, edges_at, lies_in, one_if}
-use Rattle.sheet_geometry.specs.Plans.{AreRulers, tile_of}
+use Rattle.sheet_geometry.specs.Areas.{area_sum, changes_in, changes_plate, edges_at, lies_in, one_if, traps}
+use Rattle.sheet_geometry.specs.Plans.{AreRulersFor, tile_of}
 use Rattle.sheet_geometry.specs.Spans.{AreSpans, IsSpan}
 use Rattle.sheet_geometry.specs.Tiles.{strip_rows}
 use Rattle.sheet_geometry.proofs.Areas.{area-rows, counts_by_samples}
 use Rattle.sheet_geometry.proofs.PlanLemmas.{strip_is}
-use Rattle.sheet_geometry.proofs.Tiles.{rows_to}
+use Rattle.sheet_geometry.proofs.Tiles.{rows_to, traps_local}
 use Rattle.sheet_engine.specs.Strips.{IsSomeSpan}
 use Rattle.sheet_engine.specs.Whole.{AreTintsTo, HasStrip, IsCounted}
 use Rattle.sheet_engine.specs.Works.{AreNone}
 use Rattle.sheet_engine.specs.Growth.{AddsArea, Grows, HasWorkspace, HasWorkspaces}
 use Rattle.sheet_engine.specs.declared.counts.SheetCounts.{SheetCounts}
 use Rattle.sheet_engine.proofs.Growing.{area_edges, area_few}
+use Rattle.page_model.specs.Columns.{halo}
+use Rattle.page_model.specs.Reach.{page_reach}
 
 pub some_span : (ruler : Ruler) (at : ℕ) (span : Span) → IsSpan ruler at span → IsSomeSpan ruler span
 some_span ruler at span is = subst (λ (n : ℕ). IsSpan ruler n span) (sym is.begins) is
@@ -48,8 +50,8 @@ grows_rows n left top wide a b f before mid after g h = record {
 pub rows_add : (sheet : PageParts) (left top wide a b : ℕ) (before mid after : SheetCounts) → AddsArea sheet left top wide a before mid → AddsArea sheet left (top + a) wide b mid after → AddsArea sheet left top wide (a + b) before after
 rows_add sheet left top wide a b before mid after g h = record {
   zone_samples = grows_rows (length sheet.zones) left top wide a b (λ z. lies_in z sheet) before.zone_samples.items mid.zone_samples.items after.zone_samples.items g.zone_samples h.zone_samples;
-  zone_changed = grows_rows (length sheet.zones) left top wide a b (λ z. changes_in z sheet) before.zone_changed.items mid.zone_changed.items after.zone_changed.items g.zone_changed h.zone_changed;
-  plate_changed = grows_rows (plates sheet) left top wide a b (λ c. changes_plate c sheet) before.plate_changed.items mid.plate_changed.items after.plate_changed.items g.plate_changed h.plate_changed;
+  zone_changed = grows_rows (length sheet.zones) left top wide a b (λ z. changes_in traps z sheet) before.zone_changed.items mid.zone_changed.items after.zone_changed.items g.zone_changed h.zone_changed;
+  plate_changed = grows_rows (plates sheet) left top wide a b (λ c. changes_plate traps c sheet) before.plate_changed.items mid.plate_changed.items after.plate_changed.items g.plate_changed h.plate_changed;
   edges = (let s = g.edges in let t = h.edges in let e = area-rows (edges_at sheet) left top wide a b in omega (arith, s, t, e));
 }
 
@@ -106,21 +108,21 @@ all_counted sheet before after wide tall none h =
     let counts = counts_by_samples sheet wide tall in
     record {
       zones = grown_long (length sheet.zones) (λ z. area_sum (lies_in z sheet) 0 0 (width sheet) (height sheet)) before.zone_samples.items after.zone_samples.items none.zone_samples h.zone_samples;
-      zones_too = grown_long (length sheet.zones) (λ z. area_sum (changes_in z sheet) 0 0 (width sheet) (height sheet)) before.zone_changed.items after.zone_changed.items none.zone_changed h.zone_changed;
-      plates_all = grown_long (plates sheet) (λ c. area_sum (changes_plate c sheet) 0 0 (width sheet) (height sheet)) before.plate_changed.items after.plate_changed.items none.plate_changed h.plate_changed;
+      zones_too = grown_long (length sheet.zones) (λ z. area_sum (changes_in traps z sheet) 0 0 (width sheet) (height sheet)) before.zone_changed.items after.zone_changed.items none.zone_changed h.zone_changed;
+      plates_all = grown_long (plates sheet) (λ c. area_sum (changes_plate traps c sheet) 0 0 (width sheet) (height sheet)) before.plate_changed.items after.plate_changed.items none.plate_changed h.plate_changed;
       zone_samples = λ z l. grown_from_none (length sheet.zones) z (area_sum (lies_in z sheet) 0 0 (width sheet) (height sheet)) before.zone_samples.items after.zone_samples.items none.zone_samples l (h.zone_samples.each z l) ∙ sym (counts.zone_samples z);
-      zone_changed = λ z l. grown_from_none (length sheet.zones) z (area_sum (changes_in z sheet) 0 0 (width sheet) (height sheet)) before.zone_changed.items after.zone_changed.items none.zone_changed l (h.zone_changed.each z l) ∙ sym (counts.zone_changed z);
-      plate_changed = λ c l. grown_from_none (plates sheet) c (area_sum (changes_plate c sheet) 0 0 (width sheet) (height sheet)) before.plate_changed.items after.plate_changed.items none.plate_changed l (h.plate_changed.each c l) ∙ sym (counts.plate_changed c);
+      zone_changed = λ z l. grown_from_none (length sheet.zones) z (area_sum (changes_in traps z sheet) 0 0 (width sheet) (height sheet)) before.zone_changed.items after.zone_changed.items none.zone_changed l (h.zone_changed.each z l) ∙ sym (counts.zone_changed z);
+      plate_changed = λ c l. grown_from_none (plates sheet) c (area_sum (changes_plate traps c sheet) 0 0 (width sheet) (height sheet)) before.plate_changed.items after.plate_changed.items none.plate_changed l (h.plate_changed.each c l) ∙ sym (counts.plate_changed c);
       edges = (let e = h.edges in let z = none.edges in let a : after.edges ≡ area_sum (edges_at sheet) 0 0 (width sheet) (height sheet) = omega (arith, e, z) in a ∙ sym counts.edges);
     }
 
 -- one strip more
-pub strip_added : (sheet : PageParts) (across down : Ruler) (columns : List Span) (row : Span) (at : ℕ) (before after : List (List ℕ)) → 1 ≤ plates sheet → 1 ≤ length sheet.zones → AreRulers sheet across down → AreSpans across 0 columns (width sheet) → IsSpan down at row
+pub strip_added : (sheet : PageParts) (across down : Ruler) (columns : List Span) (row : Span) (at : ℕ) (before after : List (List ℕ)) → 1 ≤ plates sheet → 1 ≤ length sheet.zones → AreRulersFor traps sheet across down → AreSpans across 0 columns (width sheet) → IsSpan down at row
     → AreTintsTo sheet at before → HasStrip sheet columns row before after → AreTintsTo sheet (at + row.core) after
 strip_added sheet across down columns row at before after some zones are spans is b h = record {
   count = h.count ∙ b.count;
-  each = λ c l. h.each c l ∙ ap (λ (xs : List ℕ). xs ++ strip_rows c sheet (map (λ (column : Span). tile_of column row) columns) row.core) (b.each c l)
-      ∙ sym (rows_to c sheet (map (λ (column : Span). tile_of column row) columns) at row.core row.core (omega arith) (strip_is sheet across down some zones are columns 0 at row is spans));
+  each = λ c l. h.each c l ∙ ap (λ (xs : List ℕ). xs ++ strip_rows traps c sheet (map (λ (column : Span). tile_of column row) columns) row.core) (b.each c l)
+      ∙ sym (rows_to traps traps_local (halo (page_reach sheet)) c sheet (omega arith) (map (λ (column : Span). tile_of column row) columns) at row.core row.core (omega arith) (strip_is (halo (page_reach sheet)) sheet across down some zones are columns 0 at row is spans));
 }
 
 -- all rows

@@ -10,7 +10,7 @@ use Rattle.page_model.specs.Page.{height, plates, width}
 use Rattle.page_model.specs.Zones.{zone_of}
 use Rattle.sheet_geometry.specs.declared.spans.Ruler.{Ruler}
 use Rattle.sheet_geometry.specs.declared.spans.Span.{Span}
-use Rattle.sheet_geometry.specs.Areas.{area_sum, changes_in, changes_plate, lies_in, one_if}
+use Rattle.sheet_geometry.specs.Areas.{area_sum, changes_in, changes_plate, lies_in, one_if, traps}
 use Rattle.sheet_geometry.specs.Spans.{IsSpan}
 use Rattle.sheet_engine.specs.Works.{AreAdded, AreNone, CanAdd, CanAddEach, HasArea}
 use Rattle.sheet_engine.proofs.Wholes.{grown_from_none, none_workspace}
@@ -75,7 +75,7 @@ added_each n by before more counts after none h long g = record {
 pub added : (sheet : PageParts) (left top wide rows : ℕ) (counts more after : SheetCounts) → HasWorkspaces sheet (wide * rows) counts → HasArea sheet left top wide rows more → AreAdded counts more after → AddsArea sheet left top wide rows counts after
 added sheet left top wide rows counts more after workspace h g = record {
   zone_samples = added_each (length sheet.zones) (λ z. area_sum (lies_in z sheet) left top wide rows) h.before.zone_samples.items more.zone_samples.items counts.zone_samples.items after.zone_samples.items h.none.zone_samples h.adds.zone_samples workspace.zone_samples.long g.zone_samples;
-  zone_changed = added_each (length sheet.zones) (λ z. area_sum (changes_in z sheet) left top wide rows) h.before.zone_changed.items more.zone_changed.items counts.zone_changed.items after.zone_changed.items h.none.zone_changed h.adds.zone_changed workspace.zone_changed.long g.zone_changed;
-  plate_changed = added_each (plates sheet) (λ c. area_sum (changes_plate c sheet) left top wide rows) h.before.plate_changed.items more.plate_changed.items counts.plate_changed.items after.plate_changed.items h.none.plate_changed h.adds.plate_changed workspace.plate_changed.long g.plate_changed;
+  zone_changed = added_each (length sheet.zones) (λ z. area_sum (changes_in traps z sheet) left top wide rows) h.before.zone_changed.items more.zone_changed.items counts.zone_changed.items after.zone_changed.items h.none.zone_changed h.adds.zone_changed workspace.zone_changed.long g.zone_changed;
+  plate_changed = added_each (plates sheet) (λ c. area_sum (changes_plate traps c sheet) left top wide rows) h.before.plate_changed.items more.plate_changed.items counts.plate_changed.items after.plate_changed.items h.none.plate_changed h.adds.plate_changed workspace.plate_changed.long g.plate_changed;
   edges = (let a = g.edges in let b = h.adds.edges in let c = h.none.edges in omega (arith, a, b, c));
 }

@@ -10,6 +10,7 @@ use Rattle.page_model.specs.declared.parts.Plane.{Plane}
 use Rattle.page_model.specs.Page.{height, plates, width}
 use Rattle.page_model.specs.Tints.{new, trapped_planes}
 use Rattle.page_tally.specs.Shapes.{shape_of}
+use Rattle.sheet_geometry.specs.Areas.{traps}
 use Rattle.sheet_geometry.specs.declared.spans.Ruler.{Ruler}
 use Rattle.sheet_geometry.specs.declared.spans.Span.{Span}
 use Rattle.sheet_geometry.specs.Plans.{tile_of}
@@ -29,6 +30,8 @@ use Rattle.sheet_engine.specs.Growth.{AddsArea}
 use Rattle.sheet_engine.specs.declared.counts.SheetCounts.{SheetCounts}
 use Rattle.sheet_geometry.specs.Forms.{Form, form_of, zone_form}
 use Rattle.sheet_geometry.proofs.FormLemmas.{window_form}
+use Rattle.page_model.specs.Columns.{halo}
+use Rattle.page_model.specs.Reach.{page_reach}
 
 -- one more item
 pub mapped_more : {X Y : Type 0} (f : X → Y) (xs : List X) (x : X) (ys : List Y) (i : ℕ) (d : Y) → i < length ys → map f xs ≡ take i ys → f x ≡ get_or ys i d → map f (xs ++ x ∷ []) ≡ take (i + 1) ys
@@ -83,7 +86,7 @@ grown_counts form page left top wide rows before after h adds = record {
 }
 
 -- a window that is trapped
-pub trapped_is : (sheet : PageParts) (row : Span) (at : ℕ) (page : PageParts) (before : SheetCounts) (w : WindowWorkspace) → IsTile sheet (tile_of w.column row) (w.column.from + w.column.skip) at row.core → page ≡ window sheet (tile_of w.column row).cut → AreNone sheet before → w.workspace.outcome.planes ≡ trapped_planes page
+pub trapped_is : (sheet : PageParts) (row : Span) (at : ℕ) (page : PageParts) (before : SheetCounts) (w : WindowWorkspace) → IsTile (halo (page_reach sheet)) sheet (tile_of w.column row) (w.column.from + w.column.skip) at row.core → page ≡ window sheet (tile_of w.column row).cut → AreNone sheet before → w.workspace.outcome.planes ≡ trapped_planes page
     → AddsArea page w.column.skip row.skip w.column.core row.core before w.counts → IsWindowWorkspace (form_of sheet) row.wide w → IsTrappedIn sheet row at w
 trapped_is sheet row at page before w tile e none planes adds workspace = record {
   workspace = workspace;
@@ -141,7 +144,7 @@ put_prefix shown run after a inside e =
     ap (take (a + length run)) (e ∙ sym (append_assoc (take a shown) run (drop (a + length run) shown)))
     ∙ take_at (take a shown ++ run) (drop (a + length run) shown) (a + length run) (omega (arith, both, before))
 
-pub core_long : (c : ℕ) (sheet : PageParts) (k : ℕ) (tile : Tile) (run : List ℕ) → run ≡ core_row c sheet k tile → length run ≡ tile.core.width
+pub core_long : (c : ℕ) (sheet : PageParts) (k : ℕ) (tile : Tile) (run : List ℕ) → run ≡ core_row traps c sheet k tile → length run ≡ tile.core.width
 core_long c sheet k tile run e = ap length e ∙ length-list_below (λ x. new (window sheet tile.cut) (record { x = tile.core.left + x; y = tile.core.top + k }) c) tile.core.width
 
 -- the column of a window, by its number

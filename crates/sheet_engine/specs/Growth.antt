@@ -5,7 +5,7 @@ use Rattle.page_model.specs.declared.parts.PageParts.{PageParts}
 use Rattle.lists.specs.Words.{sum_below}
 use Rattle.page_model.specs.Page.{height, plates, width}
 use Rattle.sheet_geometry.specs.declared.cuts.Cut.{Cut}
-use Rattle.sheet_geometry.specs.Areas.{area_sum, changes_in, changes_plate, edges_at, lies_in}
+use Rattle.sheet_geometry.specs.Areas.{area_sum, changes_in, changes_plate, edges_at, lies_in, traps}
 use Rattle.sheet_engine.specs.declared.counts.SheetCounts.{SheetCounts}
 
 -- the sum over `wide` samples of row y, from sample `left` on
@@ -34,10 +34,10 @@ pub record AddsRow (page : PageParts) (y left wide : ℕ) (before after : SheetC
       (λ z. row_sum (lies_in z page) y left wide)
       before.zone_samples.items after.zone_samples.items
   pub zone_changed : Grows (length page.zones)
-      (λ z. row_sum (changes_in z page) y left wide)
+      (λ z. row_sum (changes_in traps z page) y left wide)
       before.zone_changed.items after.zone_changed.items
   pub plate_changed : Grows (plates page)
-      (λ c. row_sum (changes_plate c page) y left wide)
+      (λ c. row_sum (changes_plate traps c page) y left wide)
       before.plate_changed.items after.plate_changed.items
   pub edges : after.edges ≡ before.edges + row_sum (edges_at page) y left wide
 
@@ -48,10 +48,10 @@ pub record AddsArea (page : PageParts) (left top wide rows : ℕ) (before after 
       (λ z. area_sum (lies_in z page) left top wide rows)
       before.zone_samples.items after.zone_samples.items
   pub zone_changed : Grows (length page.zones)
-      (λ z. area_sum (changes_in z page) left top wide rows)
+      (λ z. area_sum (changes_in traps z page) left top wide rows)
       before.zone_changed.items after.zone_changed.items
   pub plate_changed : Grows (plates page)
-      (λ c. area_sum (changes_plate c page) left top wide rows)
+      (λ c. area_sum (changes_plate traps c page) left top wide rows)
       before.plate_changed.items after.plate_changed.items
   pub edges : after.edges ≡ before.edges + area_sum (edges_at page) left top wide rows
 

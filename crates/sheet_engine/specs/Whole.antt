@@ -6,6 +6,7 @@ use Rattle.lists.specs.Words.{list_below}
 use Rattle.page_model.specs.Counts.{deciding_edges, plate_changed, zone_changed, zone_samples}
 use Rattle.page_model.specs.Page.{plates, sample_at, width}
 use Rattle.page_model.specs.Tints.{new}
+use Rattle.sheet_geometry.specs.Areas.{traps}
 use Rattle.sheet_geometry.specs.declared.spans.Span.{Span}
 use Rattle.sheet_geometry.specs.Plans.{tile_of}
 use Rattle.sheet_geometry.specs.Tiles.{strip_rows}
@@ -22,7 +23,7 @@ pub record HasStrip (sheet : PageParts) (columns : List Span) (row : Span)
     (before after : List (List ℕ)) : Type 0 where
   pub count : length after ≡ length before
   pub each : (c : ℕ) → c < plates sheet → slice_index_or after c [] ≡ slice_index_or before c []
-      ++ strip_rows c sheet (map (λ column. tile_of column row) columns) row.core
+      ++ strip_rows traps c sheet (map (λ column. tile_of column row) columns) row.core
 
 -- the counts of the whole sheet
 pub record IsCounted (sheet : PageParts) (counts : SheetCounts) : Type 0 where

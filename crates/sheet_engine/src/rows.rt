@@ -2,7 +2,8 @@
 
 ghost use Rattle.std.specs.Prelude.{◌≡◌, ◌<◌, ◌≤◌, ◌+◌, IfOk, length, map};
 ghost use Rattle.page_model.specs.Page.{plates, width};
-ghost use Rattle.sheet_geometry.specs.Plans.{AreRulers, tile_of};
+ghost use Rattle.sheet_geometry.specs.Areas.{traps};
+ghost use Rattle.sheet_geometry.specs.Plans.{AreRulersFor, tile_of};
 ghost use Rattle.sheet_geometry.specs.Spans.{AreSpans};
 ghost use Rattle.sheet_geometry.specs.Tiles.{strip_row, strip_rows};
 ghost use Rattle.sheet_engine.specs.Workspaces.{columns_in, tiles_in};
@@ -27,14 +28,14 @@ pub fn put_strip_row(
     c: u32,
     out: &mut [u16],
 )
-    requires rulers { AreRulers strip.now across.now down.now }
+    requires rulers { AreRulersFor traps strip.now across.now down.now }
     requires columns { AreSpans across.now 0 (columns_in workspace.now) (width strip.now) }
     requires row { IsSomeSpan down.now row.now }
     requires tiles { tiles_in workspace.now ≡ map (planes_of strip.now row.now) (columns_in workspace.now) }
     requires plate { c < plates strip.now }
     requires line { k < row.now.core }
     requires out { length out.old ≡ width strip.now }
-    ensures { out.new ≡ strip_row c strip.now k
+    ensures { out.new ≡ strip_row traps c strip.now k
         (map (λ column. tile_of column row.now) (columns_in workspace.now)) }
 {
     let _valid = strip.width();
@@ -61,7 +62,7 @@ pub fn strip_tints(
     c: u32,
     line: &mut [u16],
 ) -> Result<Vec<u16>, OutOfMemory>
-    requires rulers { AreRulers strip.now across.now down.now }
+    requires rulers { AreRulersFor traps strip.now across.now down.now }
     requires columns { AreSpans across.now 0 (columns_in workspace.now) (width strip.now) }
     requires row { IsSomeSpan down.now row.now }
     requires tiles { tiles_in workspace.now ≡ map (planes_of strip.now row.now) (columns_in workspace.now) }
@@ -69,7 +70,7 @@ pub fn strip_tints(
     requires line { length line.old ≡ width strip.now }
     ensures line { length line.new ≡ length line.old }
     ensures tints { IfOk result (λ tints. tints.items
-        ≡ strip_rows c strip.now (map (λ column. tile_of column row.now) (columns_in workspace.now))
+        ≡ strip_rows traps c strip.now (map (λ column. tile_of column row.now) (columns_in workspace.now))
         row.now.core) }
 {
     let mut out = Vec::new(alloc);

@@ -5,7 +5,7 @@ ghost use Rattle.page_model.specs.Counts.{sample_changes};
 ghost use Rattle.page_model.specs.Page.{height, plates, width};
 ghost use Rattle.page_model.specs.Tints.{new, trapped_planes};
 ghost use Rattle.page_model.specs.Zones.{AreZones};
-ghost use Rattle.sheet_geometry.specs.Areas.{changes_in, changes_plate};
+ghost use Rattle.sheet_geometry.specs.Areas.{changes_in, changes_plate, traps};
 ghost use Rattle.page_tally.specs.Shapes.{shape_of};
 ghost use Rattle.page_tally.specs.Standing.{AreTrappedTo, IsTrappedTo};
 ghost use Rattle.page_tally.specs.Uncounted.{HasTints};
@@ -54,7 +54,7 @@ fn add_plates(page: &Page, planes: &[Plane], y: u32, left: usize, wide: usize, c
     requires row { y < height page.now }
     requires inside { left + wide ≤ width page.now }
     requires workspace { HasWorkspace (plates page.now) wide counts.old }
-    ensures { Grows (plates page.now) (λ c. row_sum (changes_plate c page.now) y left wide)
+    ensures { Grows (plates page.now) (λ c. row_sum (changes_plate traps c page.now) y left wide)
         counts.old counts.new }
 {
     let _valid = page.plates();
@@ -87,10 +87,10 @@ fn add_changes(
     requires zone_workspace { HasWorkspace (length page.now.zones) wide counts.old.zone_changed.items }
     requires plate_workspace { HasWorkspace (plates page.now) wide counts.old.plate_changed.items }
     ensures zone_changed { Grows (length page.now.zones)
-        (λ z. row_sum (changes_in z page.now) y left wide)
+        (λ z. row_sum (changes_in traps z page.now) y left wide)
         counts.old.zone_changed.items counts.new.zone_changed.items }
     ensures plate_changed { Grows (plates page.now)
-        (λ c. row_sum (changes_plate c page.now) y left wide)
+        (λ c. row_sum (changes_plate traps c page.now) y left wide)
         counts.old.plate_changed.items counts.new.plate_changed.items }
     ensures zone_samples { counts.new.zone_samples ≡ counts.old.zone_samples }
     ensures edges { counts.new.edges ≡ counts.old.edges }

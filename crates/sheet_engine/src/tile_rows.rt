@@ -5,7 +5,7 @@ ghost use Rattle.page_model.specs.Counts.{sample_changes};
 ghost use Rattle.page_model.specs.Page.{height, plates, tint, width};
 ghost use Rattle.page_model.specs.Tints.{new};
 ghost use Rattle.page_model.specs.Zones.{AreZones};
-ghost use Rattle.sheet_geometry.specs.Areas.{changes_in, changes_plate, edges_at, lies_in, one_if as bit_of};
+ghost use Rattle.sheet_geometry.specs.Areas.{changes_in, changes_plate, edges_at, lies_in, one_if as bit_of, traps};
 ghost use Rattle.page_tally.specs.Standing.{AreMarks};
 ghost use Rattle.sheet_engine.specs.Growth.{Grows, HasWorkspace, row_sum};
 
@@ -107,7 +107,7 @@ pub fn add_changed(
         ≡ sample_changes page.now (record { x = x; y = y }) }
     requires inside { left + wide ≤ width page.now }
     requires workspace { HasWorkspace (length page.now.zones) wide counts.old }
-    ensures { Grows (length page.now.zones) (λ z. row_sum (changes_in z page.now) y left wide)
+    ensures { Grows (length page.now.zones) (λ z. row_sum (changes_in traps z page.now) y left wide)
         counts.old counts.new }
 {
     let _valid = page.plates();
@@ -133,7 +133,7 @@ fn add_each_changed(
         ≡ sample_changes page.now (record { x = x; y = y }) }
     requires inside { left + wide ≤ width page.now }
     requires workspace { HasWorkspace (length page.now.zones) wide counts.old }
-    ensures { Grows (length page.now.zones) (λ z. row_sum (changes_in z page.now) y left wide)
+    ensures { Grows (length page.now.zones) (λ z. row_sum (changes_in traps z page.now) y left wide)
         counts.old counts.new }
 {
     let _valid = page.plates();
@@ -170,7 +170,7 @@ pub fn plate_changes_in(
         → slice_index before.now x ≡ tint page.now c (record { x = x; y = y }) }
     requires news { (x : ℕ) → x < width page.now
         → slice_index after.now x ≡ new page.now (record { x = x; y = y }) c }
-    ensures count { result ≡ row_sum (changes_plate c page.now) y left wide }
+    ensures count { result ≡ row_sum (changes_plate traps c page.now) y left wide }
     ensures few { result ≤ wide }
 {
     let old = tints_from(before, left, wide);

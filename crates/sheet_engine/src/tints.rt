@@ -2,7 +2,8 @@
 
 ghost use Rattle.std.specs.Prelude.{◌≡◌, ◌<◌, ◌≤◌, ◌+◌, ◌*◌, ℕ, length, slice_index};
 ghost use Rattle.page_model.specs.Page.{plates, width};
-ghost use Rattle.sheet_geometry.specs.Plans.{AreRulers, tile_of};
+ghost use Rattle.sheet_geometry.specs.Areas.{traps};
+ghost use Rattle.sheet_geometry.specs.Plans.{AreRulersFor, tile_of};
 ghost use Rattle.sheet_geometry.specs.Spans.{IsSpan};
 ghost use Rattle.sheet_geometry.specs.Tiles.{core_row};
 ghost use Rattle.sheet_engine.specs.Strips.{IsSomeSpan, planes_of};
@@ -22,13 +23,13 @@ pub fn row_of_core<'a>(
     k: u32,
     c: u32,
 ) -> &'a [u16]
-    requires rulers { AreRulers sheet.now across.now down.now }
+    requires rulers { AreRulersFor traps sheet.now across.now down.now }
     requires column { IsSomeSpan across.now column.now }
     requires row { IsSomeSpan down.now row.now }
     requires planes { planes.now ≡ planes_of sheet.now row.now column.now }
     requires plate { c < plates sheet.now }
     requires line { k < row.now.core }
-    ensures { result.now ≡ core_row c sheet.now k (tile_of column.now row.now) }
+    ensures { result.now ≡ core_row traps c sheet.now k (tile_of column.now row.now) }
 {
     let _valid = sheet.width();
     let start = (row.skip + k) as usize * column.wide as usize + column.skip as usize;

@@ -2,7 +2,8 @@
 
 ghost use Rattle.std.specs.Prelude.{◌≡◌, ◌<◌, ◌≤◌, ◌+◌, ◌*◌, ℕ, All, IfOk, map, length, slice_index_or};
 ghost use Rattle.page_model.specs.Page.{plates, width};
-ghost use Rattle.sheet_geometry.specs.Plans.{AreRulers, AreSmall};
+ghost use Rattle.sheet_geometry.specs.Areas.{traps};
+ghost use Rattle.sheet_geometry.specs.Plans.{AreRulersFor, AreSmall};
 ghost use Rattle.sheet_geometry.specs.Spans.{AreSpans, IsSpan};
 ghost use Rattle.sheet_engine.specs.declared.workspace.WindowWorkspace.{WindowWorkspace};
 ghost use Rattle.sheet_engine.specs.Workspaces.{IsStripWorkspace, IsTrappedIn, IsWindowOf, IsWindowWorkspace, columns_in, tiles_in};
@@ -65,7 +66,7 @@ fn window_workspace(
     column: &Span,
     row: &Span,
 ) -> Result<WindowWorkspace, OutOfMemory>
-    requires rulers { AreRulers strip.now across.now down.now }
+    requires rulers { AreRulersFor traps strip.now across.now down.now }
     requires small { AreSmall strip.now across.now down.now }
     requires column { IsSomeSpan across.now column.now }
     requires row { IsSomeSpan down.now row.now }
@@ -97,7 +98,7 @@ impl StripWorkspace {
         columns: &[Span],
         row: &Span,
     ) -> Result<StripWorkspace, OutOfMemory>
-        requires rulers { AreRulers strip.now across.now down.now }
+        requires rulers { AreRulersFor traps strip.now across.now down.now }
         requires small { AreSmall strip.now across.now down.now }
         requires columns { All (IsSomeSpan across.now) columns.now }
         requires row { IsSomeSpan down.now row.now }
@@ -137,7 +138,7 @@ fn trap_window_in(
     at: u32,
     window: &mut WindowWorkspace,
 )
-    requires rulers { AreRulers sheet.now across.now down.now }
+    requires rulers { AreRulersFor traps sheet.now across.now down.now }
     requires small { AreSmall sheet.now across.now down.now }
     requires row { IsSpan down.now at row.now }
     requires column { IsWindowOf across.now window.old }
@@ -172,7 +173,7 @@ pub struct RowPlan {
 }
 
 fn trap_planned_in(sheet: &Sheet, plan: &RowPlan, window: &mut WindowWorkspace)
-    requires rulers { AreRulers sheet.now plan.now.across plan.now.down }
+    requires rulers { AreRulersFor traps sheet.now plan.now.across plan.now.down }
     requires small { AreSmall sheet.now plan.now.across plan.now.down }
     requires row { IsSpan plan.now.down plan.now.at plan.now.row }
     requires column { IsWindowOf plan.now.across window.old }
@@ -191,7 +192,7 @@ fn trap_each_in<H: Threads + Sync>(
     windows: &mut [WindowWorkspace],
 )
     requires some_workers { 1 ≤ workers }
-    requires rulers { AreRulers sheet.now plan.now.across plan.now.down }
+    requires rulers { AreRulersFor traps sheet.now plan.now.across plan.now.down }
     requires small { AreSmall sheet.now plan.now.across plan.now.down }
     requires row { IsSpan plan.now.down plan.now.at plan.now.row }
     requires columns { All (IsWindowOf plan.now.across) windows.old }
@@ -206,7 +207,7 @@ fn trap_each_in<H: Threads + Sync>(
         windows,
         workers,
         &|_k: usize, window: &mut WindowWorkspace|
-            requires rulers { AreRulers sheet.now plan.now.across plan.now.down }
+            requires rulers { AreRulersFor traps sheet.now plan.now.across plan.now.down }
             requires small { AreSmall sheet.now plan.now.across plan.now.down }
             requires row { IsSpan plan.now.down plan.now.at plan.now.row }
             requires column { IsWindowOf plan.now.across window.now }
@@ -272,7 +273,7 @@ pub fn trap_strip_in<H: Threads + Sync>(
     counts: &mut SheetCounts,
 )
     requires some_workers { 1 ≤ workers }
-    requires rulers { AreRulers strip.now plan.now.across plan.now.down }
+    requires rulers { AreRulersFor traps strip.now plan.now.across plan.now.down }
     requires small { AreSmall strip.now plan.now.across plan.now.down }
     requires columns { AreSpans plan.now.across 0 (columns_in workspace.old) (width strip.now) }
     requires row { IsSpan plan.now.down plan.now.at plan.now.row }

@@ -18,6 +18,7 @@ use Rattle.pgm_plates.specs.declared.plate.Plate.{Plate}
 use Rattle.pgm_plates.specs.Planes.{plane_of}
 use Rattle.pgm_plates.specs.Rows.{IsWithin}
 use Rattle.common_errors.specs.declared.common.CommonError.TheVariants.{NoDetails}
+use Rattle.sheet_geometry.specs.Areas.{traps}
 use Rattle.sheet_geometry.specs.declared.budget.Budget.{Budget}
 use Rattle.sheet_geometry.specs.declared.sheet_errors.SheetError.{SheetError}
 use Rattle.sheet_geometry.specs.CommonErrors.{sheet_error}
@@ -28,7 +29,7 @@ use Rattle.sheet_files.specs.Inputs.{detailed, judged, sheet_of}
 use Rattle.sheet_files.specs.Planning.{CanPlan, CanPlanPlanes, HaveHeaders, MakesWhole, PlansParts, PlansSheet, header_of, plane_for, outline_for}
 use Rattle.sheet_files.specs.SheetFiles.{CanAssembleSheet}
 use Rattle.sheet_files.proofs.SheetLemmas.{can_cut, is_accepted, is_sheet_parts}
-use Rattle.sheet_geometry.specs.Planned.{IsPlan}
+use Rattle.sheet_geometry.specs.Planned.{IsPlanFor}
 use Rattle.sheet_geometry.specs.Outline.{IsOutlineSheet, IsOutlineParts, IsOutlinePlane, outline_plane, outline_sheet}
 use Rattle.sheet_geometry.proofs.OutlineLemmas.{law_of}
 
@@ -119,7 +120,7 @@ module _ (job : Job) (headers : List Header) (names : List (List ℕ)) (is : IsJ
 
   pub plans_parts : (budget : Budget) (result : Result PlannedSheet TrapsheetError) → PlansParts budget (outline_for job headers names) result → PlansSheet budget job headers names result
   plans_parts budget result (PlansParts.planned sheet ok same outline accepted plan) =
-      PlansSheet.planned sheet ok (subst IsOutlineSheet (sym same) outline) (subst (λ (s : PageParts). outline_sheet s ≡ s) (sym same) outline_again) (ap sheet_error same ∙ accepted) (ap plates same ∙ length-map headers plane_for) (subst (λ (s : PageParts). IsPlan s budget sheet.plan) (sym same) plan)
+      PlansSheet.planned sheet ok (subst IsOutlineSheet (sym same) outline) (subst (λ (s : PageParts). outline_sheet s ≡ s) (sym same) outline_again) (ap sheet_error same ∙ accepted) (ap plates same ∙ length-map headers plane_for) (subst (λ (s : PageParts). IsPlanFor traps s budget sheet.plan) (sym same) plan)
       (λ plates have. subst (λ (s : PageParts). MakesWhole job plates names s) (sym same) (makes_whole plates have accepted))
   plans_parts budget result (PlansParts.refused common_error err fault) =
       PlansSheet.refused (OfSheet common_error) err (λ plates have. of_error plates (Some common_error) (error_made plates have ∙ fault))

@@ -8,6 +8,7 @@ use Rattle.page_model.specs.Page.{height, maxval, width}
 use Rattle.pgm_plates.specs.declared.header.Header.{Header}
 use Rattle.pgm_plates.specs.declared.plate.Plate.{Plate as PlateRead}
 use Rattle.common_errors.specs.declared.common.CommonError.TheVariants.{Memory, Read}
+use Rattle.sheet_geometry.specs.Areas.{traps}
 use Rattle.sheet_geometry.specs.declared.budget.Budget.{Budget}
 use Rattle.sheet_geometry.specs.CommonErrors.{sheet_error}
 use Rattle.sheet_files.specs.declared.planning.PlannedSheet.{PlannedSheet}
@@ -21,7 +22,7 @@ use Rattle.sheet_files.specs.SheetFiles.{IsSheetFile}
 use Rattle.sheet_files.specs.Steps.{ReadsFirst}
 use Rattle.plate_rows.specs.Trays.{IsCalm, tray_at}
 use Rattle.sheet_geometry.specs.Outline.{IsOutlineSheet, outline_sheet}
-use Rattle.sheet_geometry.specs.Planned.{IsPlan}
+use Rattle.sheet_geometry.specs.Planned.{IsPlanFor}
 
 -- the header that each plate of a sheet has
 abbrev pub header_in : PageParts → Header
@@ -35,7 +36,7 @@ pub record IsJudged (source : Sources) (budget : Budget) (trays : List TrayState
   pub valid : IsOutlineSheet judged.outline
   pub blank : outline_sheet judged.outline ≡ judged.outline
   pub accepted : sheet_error judged.outline ≡ None
-  pub plan : IsPlan judged.outline budget judged.plan
+  pub plan : IsPlanFor traps judged.outline budget judged.plan
   pub sheet : PageParts
   pub made : IsMadeSheet source trays sheet
   pub same : outline_sheet sheet ≡ judged.outline

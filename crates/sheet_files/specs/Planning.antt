@@ -11,6 +11,7 @@ use Rattle.pgm_plates.specs.declared.header.Header.{Header}
 use Rattle.pgm_plates.specs.declared.plate.Plate.{Plate}
 use Rattle.pgm_plates.specs.Rows.{IsWithin, plane_with}
 use Rattle.common_errors.specs.declared.common.CommonError.TheVariants.{Memory}
+use Rattle.sheet_geometry.specs.Areas.{traps}
 use Rattle.sheet_geometry.specs.declared.budget.Budget.{Budget}
 use Rattle.sheet_geometry.specs.declared.sheet_errors.SheetError.{SheetError}
 use Rattle.sheet_geometry.specs.CommonErrors.{sheet_error}
@@ -19,7 +20,7 @@ use Rattle.sheet_files.specs.declared.error.TrapsheetError.{TrapsheetError}
 use Rattle.sheet_files.specs.declared.error.TrapsheetError.TheVariants.{Common, OfSheet}
 use Rattle.sheet_files.specs.Inputs.{sheet_of}
 use Rattle.sheet_files.specs.SheetFiles.{IsSheetPlate}
-use Rattle.sheet_geometry.specs.Planned.{IsPlan}
+use Rattle.sheet_geometry.specs.Planned.{IsPlanFor}
 use Rattle.sheet_geometry.specs.Outline.{IsOutlineSheet, IsOutlinePlane, outline_sheet}
 use Rattle.sheet_geometry.specs.Sheets.{IsSheet}
 use Rattle.page_model.specs.Limits.{most_plates, most_sheet_side}
@@ -68,7 +69,7 @@ pub record MakesWhole (job : Job) (plates : List Plate) (names : List (List ℕ)
 pub data PlansParts (budget : Budget) (outline : PageParts)
     (result : Result PlannedSheet TrapsheetError) : Type 0 where
   planned : (sheet : PlannedSheet) → result ≡ Ok sheet → sheet.outline ≡ outline → IsOutlineSheet outline
-      → sheet_error outline ≡ None → IsPlan outline budget sheet.plan
+      → sheet_error outline ≡ None → IsPlanFor traps outline budget sheet.plan
       → PlansParts budget outline result
   refused : (common_error : SheetError) → result ≡ Err (OfSheet common_error)
       → sheet_error outline ≡ Some common_error → PlansParts budget outline result
@@ -80,7 +81,7 @@ pub data PlansSheet (budget : Budget) (job : Job) (headers : List Header)
   planned : (sheet : PlannedSheet) → result ≡ Ok sheet → IsOutlineSheet sheet.outline
       → outline_sheet sheet.outline ≡ sheet.outline → sheet_error sheet.outline ≡ None
       → plates sheet.outline ≡ length headers
-      → IsPlan sheet.outline budget sheet.plan → ((plates : List Plate) → HaveHeaders plates headers
+      → IsPlanFor traps sheet.outline budget sheet.plan → ((plates : List Plate) → HaveHeaders plates headers
       → MakesWhole job plates names sheet.outline) → PlansSheet budget job headers names result
   refused : (error : TrapsheetError) → result ≡ Err error → ((plates : List Plate)
       → HaveHeaders plates headers → sheet_of job plates names ≡ Err error)

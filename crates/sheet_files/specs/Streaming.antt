@@ -1,5 +1,6 @@
 -- What comes of a sheet that streams, and of the report after its plates.
 use Rattle.std.specs.Prelude.{◌≡◌, ◌≢◌, ℕ, ◌<◌, ◌^◌, List, Some, None, Result, Ok, Err}
+use Rattle.sheet_geometry.specs.Areas.{traps}
 use Rattle.sheet_geometry.specs.Outline.{IsOutlineSheet, outline_sheet}
 use Rattle.sheet_geometry.specs.declared.plan.Rulers.{Rulers}
 use Rattle.outside.specs.Rack.{RackState}
@@ -19,7 +20,7 @@ use Rattle.sheet_stream.specs.Courses.{Course}
 use Rattle.sheet_stream.specs.Second.{IsDone, IsUnread, IsUnwritten, sheet_header}
 use Rattle.sheet_stream.specs.declared.error.StreamError.{StreamError}
 use Rattle.sheet_stream.specs.declared.error.StreamError.TheVariants.{Unread, Unwritten}
-use Rattle.sheet_geometry.specs.Plans.{AreRulers, AreSmall}
+use Rattle.sheet_geometry.specs.Plans.{AreRulersFor, AreSmall}
 use Rattle.sheet_geometry.specs.Spans.{IsEvenRuler, IsRuler}
 use Rattle.sheet_engine.specs.Whole.{IsCounted}
 use Rattle.sheet_engine.specs.declared.counts.SheetCounts.{SheetCounts}
@@ -38,7 +39,7 @@ pub record StreamsBy (outline : PageParts) (rulers : Rulers) : Type 0 where
   pub cut : cut_fault outline ≡ None
   pub narrow : width outline < 2 ^ 30
   pub low : height outline < 2 ^ 30
-  pub fit : AreRulers outline rulers.across rulers.down
+  pub fit : AreRulersFor traps outline rulers.across rulers.down
   pub small : AreSmall outline rulers.across rulers.down
   pub across : IsRuler rulers.across
   pub even : IsEvenRuler rulers.down

@@ -1,5 +1,6 @@
 -- A sheet that can be trapped as it is planned, and its planes and counts after trapping.
 use Rattle.std.specs.Prelude.{◌≡◌, ℕ, ◌<◌, List, [], length, slice_index_or}
+use Rattle.sheet_geometry.specs.Areas.{traps}
 use Rattle.sheet_geometry.specs.declared.plan.Plan.{Plan}
 use Rattle.sheet_geometry.specs.declared.plan.Plan.TheVariants.{Page, Strips, Windows}
 use Rattle.sheet_geometry.specs.declared.plan.Rulers.{Rulers}
@@ -10,14 +11,14 @@ use Rattle.page_model.specs.Page.{height, maxval, plates, width}
 use Rattle.page_model.specs.Tints.{new_tints}
 use Rattle.sheet_engine.specs.Whole.{IsCounted}
 use Rattle.sheet_files.specs.declared.whole.TrappedSheet.{TrappedSheet}
-use Rattle.sheet_geometry.specs.Plans.{AreRulers, AreSmall}
+use Rattle.sheet_geometry.specs.Plans.{AreRulersFor, AreSmall}
 use Rattle.sheet_geometry.specs.Spans.{IsRuler}
 use Rattle.sheet_geometry.specs.WindowSheets.{IsCuttable}
 
 -- a sheet that these rulers cut into windows
 pub record CanCut (sheet : PageParts) (rulers : Rulers) : Type 0 where
   pub cuttable : IsCuttable sheet
-  pub fit : AreRulers sheet rulers.across rulers.down
+  pub fit : AreRulersFor traps sheet rulers.across rulers.down
   pub small : AreSmall sheet rulers.across rulers.down
   pub columns : IsRuler rulers.across
   pub rows : IsRuler rulers.down

@@ -3,7 +3,8 @@
 ghost use Rattle.std.specs.Prelude.{◌≡◌, ◌<◌, ◌≤◌, ◌+◌, ◌*◌, ◌++◌, [], ℕ, All, IfOk, IfSome, OnOk, map, length, slice_index_or, slice_set};
 ghost use Rattle.page_model.specs.Page.{height, plates, width};
 ghost use Rattle.page_model.specs.Tints.{new_tints};
-ghost use Rattle.sheet_geometry.specs.Plans.{AreRulers, AreSmall};
+ghost use Rattle.sheet_geometry.specs.Areas.{traps};
+ghost use Rattle.sheet_geometry.specs.Plans.{AreRulersFor, AreSmall};
 ghost use Rattle.sheet_geometry.specs.Spans.{AreSpans, IsRuler, IsSpan};
 ghost use Rattle.sheet_engine.specs.Strips.{IsSomeSpan, planes_of};
 ghost use Rattle.sheet_engine.specs.Workspaces.{IsStripWorkspace, columns_in, tiles_in};
@@ -63,7 +64,7 @@ fn add_strip(
     line: &mut [u16],
     out: &mut List<Tints>,
 ) -> Result<(), OutOfMemory>
-    requires rulers { AreRulers sheet.now across.now down.now }
+    requires rulers { AreRulersFor traps sheet.now across.now down.now }
     requires columns { AreSpans across.now 0 (columns_in workspace.now) (width sheet.now) }
     requires row { IsSomeSpan down.now row.now }
     requires tiles { tiles_in workspace.now ≡ map (planes_of sheet.now row.now) (columns_in
@@ -108,7 +109,7 @@ fn fit_workspace(
     row: &Span,
     kept: Option<KeptWorkspace>,
 ) -> Result<StripWorkspace, OutOfMemory>
-    requires rulers { AreRulers sheet.now across.now down.now }
+    requires rulers { AreRulersFor traps sheet.now across.now down.now }
     requires small { AreSmall sheet.now across.now down.now }
     requires columns { All (IsSomeSpan across.now) columns.now }
     requires row { IsSomeSpan down.now row.now }
@@ -154,7 +155,7 @@ fn trap_row<H: Threads + Sync>(
     work: &mut SheetWork,
 ) -> Result<KeptWorkspace, OutOfMemory>
     requires some_workers { 1 ≤ cut.now.workers }
-    requires rulers { AreRulers sheet.now cut.now.across.now cut.now.down.now }
+    requires rulers { AreRulersFor traps sheet.now cut.now.across.now cut.now.down.now }
     requires small { AreSmall sheet.now cut.now.across.now cut.now.down.now }
     requires columns { AreSpans cut.now.across.now 0 cut.now.columns.now (width sheet.now) }
     requires some { All (IsSomeSpan cut.now.across.now) cut.now.columns.now }
@@ -205,7 +206,7 @@ fn trap_rows<H: Threads + Sync>(
     work: &mut SheetWork,
 ) -> Result<(), OutOfMemory>
     requires some_workers { 1 ≤ cut.now.workers }
-    requires rulers { AreRulers sheet.now cut.now.across.now cut.now.down.now }
+    requires rulers { AreRulersFor traps sheet.now cut.now.across.now cut.now.down.now }
     requires small { AreSmall sheet.now cut.now.across.now cut.now.down.now }
     requires columns { AreSpans cut.now.across.now 0 cut.now.columns.now (width sheet.now) }
     requires rows { AreSpans cut.now.down.now 0 cut.now.rows.now (height sheet.now) }
@@ -235,7 +236,7 @@ fn trap_cut<H: Threads + Sync>(
     cut: &SheetCut<'_>,
 ) -> Result<TrappedSheet, OutOfMemory>
     requires some_workers { 1 ≤ cut.now.workers }
-    requires rulers { AreRulers sheet.now cut.now.across.now cut.now.down.now }
+    requires rulers { AreRulersFor traps sheet.now cut.now.across.now cut.now.down.now }
     requires small { AreSmall sheet.now cut.now.across.now cut.now.down.now }
     requires columns { AreSpans cut.now.across.now 0 cut.now.columns.now (width sheet.now) }
     requires rows { AreSpans cut.now.down.now 0 cut.now.rows.now (height sheet.now) }
@@ -272,7 +273,7 @@ pub fn trap_sheet<H: Threads + Sync>(
     workers: usize,
 ) -> Result<TrappedSheet, OutOfMemory>
     requires some_workers { 1 ≤ workers }
-    requires rulers { AreRulers sheet.now across.now down.now }
+    requires rulers { AreRulersFor traps sheet.now across.now down.now }
     requires small { AreSmall sheet.now across.now down.now }
     requires across { IsRuler across.now }
     requires down { IsRuler down.now }

@@ -7,12 +7,11 @@ use Rattle.lists.specs.Words.{list_below}
 use Rattle.lists.proofs.ListBelow.{list_below-add}
 use Rattle.lists.proofs.Same.{list_below-same}
 use Rattle.page_model.specs.declared.parts.PageParts.{PageParts}
-use Rattle.page_model.specs.Columns.{halo}
+use Rattle.page_model.specs.Columns.{halo as halo_of}
 use Rattle.page_model.specs.Page.{height, sample_at, width}
 use Rattle.page_model.specs.Planes.{no_plane}
-use Rattle.page_model.specs.Reach.{page_reach}
-use Rattle.page_model.specs.Tints.{new}
 use Rattle.sheet_geometry.specs.StripCores.{StripCoreLaw, inner_row, inner_ruler, new_from}
+use Rattle.sheet_geometry.specs.PageRules.{IsLocal, PageRule}
 use Rattle.sheet_geometry.specs.declared.spans.Ruler.{Ruler}
 use Rattle.sheet_geometry.specs.declared.spans.Span.{Span}
 use Rattle.sheet_geometry.specs.Plans.{AreRulers, AreSmall, tile_of}
@@ -24,38 +23,37 @@ use Rattle.sheet_geometry.proofs.Parts.{height-is, plates-same, width-is, zones-
 use Rattle.sheet_geometry.proofs.PlanLemmas.{if_true, strip_is}
 use Rattle.sheet_geometry.proofs.StripLemmas.{strip_law}
 use Rattle.sheet_geometry.proofs.Tiles.{rows_to}
-use Rattle.sheet_geometry.proofs.Windows.{reach-same}
 
 -- a row of samples, by their numbers
-row_at : (page : PageParts) (c y : ℕ) → list_below (λ x. new page (record { x = 0 + x; y = y }) c) (width page) ≡ new_from page c (y * width page) (width page)
-row_at page c y = list_below-same (λ x. new page (record { x = 0 + x; y = y }) c) (λ x. new page (sample_at page (y * width page + x)) c) (width page)
-    (λ x l. λ i. new page (record { x = (from_none x ∙ sym (mod-mul-add y (width page) x l)) i; y = sym (div-mul-add y (width page) x l) i }) c) where
+row_at : (rule : PageRule) (page : PageParts) (c y : ℕ) → list_below (λ x. rule.tint page (record { x = 0 + x; y = y }) c) (width page) ≡ new_from rule page c (y * width page) (width page)
+row_at rule page c y = list_below-same (λ x. rule.tint page (record { x = 0 + x; y = y }) c) (λ x. rule.tint page (sample_at page (y * width page + x)) c) (width page)
+    (λ x l. λ i. rule.tint page (record { x = (from_none x ∙ sym (mod-mul-add y (width page) x l)) i; y = sym (div-mul-add y (width page) x l) i }) c) where
       from_none : (n : ℕ) → 0 + n ≡ n
       from_none n = omega arith
 
 -- one row of tiles side by side
-module _ (c : ℕ) (sheet : PageParts) (tiles : List Tile) (top tall : ℕ) (is : IsStrip sheet top tall 0 tiles) where
+module _ (rule : PageRule) (local : IsLocal rule) (halo c : ℕ) (sheet : PageParts) (enough : halo_of (rule.reach sheet) ≤ halo) (tiles : List Tile) (top tall : ℕ) (is : IsStrip halo sheet top tall 0 tiles) where
   abbrev to : ℕ → List ℕ
-  to n = list_below (λ k. new sheet (sample_at sheet k) c) n
+  to n = list_below (λ k. rule.tint sheet (sample_at sheet k) c) n
 
-  pub row_from : (k : ℕ) → k < tall → strip_row c sheet k tiles ≡ new_from sheet c ((top + k) * width sheet) (width sheet)
+  pub row_from : (k : ℕ) → k < tall → strip_row rule c sheet k tiles ≡ new_from rule sheet c ((top + k) * width sheet) (width sheet)
   row_from k l =
-      let here = rows_to c sheet tiles top tall k (omega (arith, l)) is in
-      let next = rows_to c sheet tiles top tall (suc k) (omega (arith, l)) is in
+      let here = rows_to rule local halo c sheet enough tiles top tall k (omega (arith, l)) is in
+      let next = rows_to rule local halo c sheet enough tiles top tall (suc k) (omega (arith, l)) is in
       let e : (top + k) * width sheet + width sheet ≡ (top + suc k) * width sheet = omega arith in
-      append_cancel_left (to ((top + k) * width sheet)) (strip_row c sheet k tiles) (new_from sheet c ((top + k) * width sheet) (width sheet))
-      (ap (λ (t : List ℕ). t ++ strip_row c sheet k tiles) here
-      ∙ append_assoc (to (top * width sheet)) (strip_rows c sheet tiles k) (strip_row c sheet k tiles)
+      append_cancel_left (to ((top + k) * width sheet)) (strip_row rule c sheet k tiles) (new_from rule sheet c ((top + k) * width sheet) (width sheet))
+      (ap (λ (t : List ℕ). t ++ strip_row rule c sheet k tiles) here
+      ∙ append_assoc (to (top * width sheet)) (strip_rows rule c sheet tiles k) (strip_row rule c sheet k tiles)
       ∙ sym next
       ∙ sym (ap to e)
-      ∙ list_below-add (λ k. new sheet (sample_at sheet k) c) ((top + k) * width sheet) (width sheet))
+      ∙ list_below-add (λ k. rule.tint sheet (sample_at sheet k) c) ((top + k) * width sheet) (width sheet))
 
-module _ (sheet : PageParts) (across down : Ruler) (at : ℕ) (row : Span) (ok : IsSheet sheet) (near : IsNearSheet sheet) (are : AreRulers sheet across down) (is : IsSpan down at row) where
+module _ (halo : ℕ) (sheet : PageParts) (across down : Ruler) (at : ℕ) (row : Span) (ok : IsSheet sheet) (near : IsNearSheet sheet) (are : AreRulers halo sheet across down) (is : IsSpan down at row) where
   some : 1 ≤ width sheet
   some = (ok.parts.planes_in_range 0 no_plane (let plates = ok.parts.some_plates in omega (arith, plates))).some_width
 
-  law : StripLaw sheet at row
-  law = strip_law sheet across down at row ok near are is some
+  law : StripLaw halo sheet at row
+  law = strip_law halo sheet across down at row ok near are is some
 
   abbrev strip : PageParts
   strip = strip_parts sheet row
@@ -66,15 +64,12 @@ module _ (sheet : PageParts) (across down : Ruler) (at : ℕ) (row : Span) (ok :
   tall_is : height strip ≡ row.wide
   tall_is = height-is sheet (strip_tile sheet row).cut law.tile.cut
 
-  reach_is : halo (page_reach strip) ≡ halo (page_reach sheet)
-  reach_is = ap halo (reach-same sheet (strip_tile sheet row).cut)
-
-  rulers : AreRulers strip across (inner_ruler down row)
+  rulers : AreRulers halo strip across (inner_ruler down row)
   rulers = record {
     wide = are.wide ∙ sym wide_is;
     tall = sym tall_is;
-    halo_across = are.halo_across ∙ sym reach_is;
-    halo_down = are.halo_down ∙ sym reach_is;
+    halo_across = are.halo_across;
+    halo_down = are.halo_down;
     from_left = are.from_left;
     from_bottom = are.from_bottom;
     step_across = λ many. are.step_across (omega (arith, many, zones-same sheet (strip_tile sheet row).cut));
@@ -115,26 +110,30 @@ module _ (sheet : PageParts) (across down : Ruler) (at : ℕ) (row : Span) (ok :
     exact = exact_zero;
   }
 
-  -- a row of the core, by the strip and by the sheet
-  pub row_alike : (c k : ℕ) → k < row.core → new_from strip c ((row.skip + k) * width strip) (width strip) ≡ new_from sheet c ((at + k) * width sheet) (width sheet)
-  row_alike c k l =
-      let one : IsStrip sheet at row.core 0 (strip_tile sheet row ∷ []) = (law.tile, let e : 0 + width sheet ≡ width sheet = omega arith in e) in
-      sym (row_at strip c (row.skip + k))
-      ∙ ap (list_below (λ x. new strip (record { x = 0 + x; y = row.skip + k }) c)) wide_is
-      ∙ sym (append-nil (core_row c sheet k (strip_tile sheet row)))
-      ∙ row_from c sheet (strip_tile sheet row ∷ []) at row.core one k l
+  module _ (rule : PageRule) (local : IsLocal rule) (enough : halo_of (rule.reach sheet) ≤ halo) where
+    -- a row of the core, by the strip and by the sheet
+    pub row_alike : (c k : ℕ) → k < row.core → new_from rule strip c ((row.skip + k) * width strip) (width strip) ≡ new_from rule sheet c ((at + k) * width sheet) (width sheet)
+    row_alike c k l =
+        let one : IsStrip halo sheet at row.core 0 (strip_tile sheet row ∷ []) = (law.tile, let e : 0 + width sheet ≡ width sheet = omega arith in e) in
+        sym (row_at rule strip c (row.skip + k))
+        ∙ ap (list_below (λ x. rule.tint strip (record { x = 0 + x; y = row.skip + k }) c)) wide_is
+        ∙ sym (append-nil (core_row rule c sheet k (strip_tile sheet row)))
+        ∙ row_from rule local halo c sheet enough (strip_tile sheet row ∷ []) at row.core one k l
 
-  tints : (columns : List Span) (c k : ℕ) → AreSpans across 0 columns (width sheet) → k < row.core → strip_row c strip k (map (λ column. tile_of column (inner_row row)) columns) ≡ new_from sheet c ((at + k) * width sheet) (width sheet)
-  tints columns c k spans l =
-      let strips : IsStrip strip row.skip row.core 0 (map (λ (column : Span). tile_of column (inner_row row)) columns) =
-      strip_is strip across (inner_ruler down row) law.ranges.parts.some_plates law.ranges.parts.some_zones rulers columns 0 row.skip (inner_row row) span (subst (AreSpans across 0 columns) (sym wide_is) spans) in
-      row_from c strip (map (λ (column : Span). tile_of column (inner_row row)) columns) row.skip row.core strips k l ∙ row_alike c k l
+    enough_too : halo_of (rule.reach strip) ≤ halo
+    enough_too = subst (λ (n : ℕ). halo_of n ≤ halo) (sym (local.reach sheet (strip_tile sheet row).cut)) enough
 
-  pub core_law : StripCoreLaw sheet across down at row
-  core_law = record {
-    rulers = rulers;
-    small = small;
-    rows = rows;
-    span = span;
-    tints = tints;
-  }
+    tints : (columns : List Span) (c k : ℕ) → AreSpans across 0 columns (width sheet) → k < row.core → strip_row rule c strip k (map (λ column. tile_of column (inner_row row)) columns) ≡ new_from rule sheet c ((at + k) * width sheet) (width sheet)
+    tints columns c k spans l =
+        let strips : IsStrip halo strip row.skip row.core 0 (map (λ (column : Span). tile_of column (inner_row row)) columns) =
+        strip_is halo strip across (inner_ruler down row) law.ranges.parts.some_plates law.ranges.parts.some_zones rulers columns 0 row.skip (inner_row row) span (subst (AreSpans across 0 columns) (sym wide_is) spans) in
+        row_from rule local halo c strip enough_too (map (λ (column : Span). tile_of column (inner_row row)) columns) row.skip row.core strips k l ∙ row_alike c k l
+
+    pub core_law : StripCoreLaw halo rule sheet across down at row
+    core_law = record {
+      rulers = rulers;
+      small = small;
+      rows = rows;
+      span = span;
+      tints = tints;
+    }

@@ -9,7 +9,7 @@ use Rattle.lists.specs.Words.{sum_below}
 use Rattle.page_model.specs.Page.{height, width}
 use Rattle.page_model.proofs.NumberSums.{sum_none, sum_plus, sum_same}
 use Rattle.sheet_geometry.specs.declared.cuts.Cut.{Cut}
-use Rattle.sheet_geometry.specs.Areas.{area_sum, changes_in, changes_plate, edges_at, lies_in, page_sum}
+use Rattle.sheet_geometry.specs.Areas.{area_sum, changes_in, changes_plate, edges_at, lies_in, page_sum, traps}
 use Rattle.sheet_geometry.specs.Covers.{CoverLaw, IsCover, IsOnSheet, LiesWithin, area_at, areas_sum, no_area}
 use Rattle.sheet_geometry.proofs.Areas.{area-columns, area-rows, area-same, counts_by_samples}
 
@@ -182,7 +182,7 @@ cover_law sheet areas wide tall cover =
     let counts = counts_by_samples sheet wide tall in
     record {
       zone_samples = λ z. counts.zone_samples z ∙ cover_sum (lies_in z) sheet areas cover;
-      zone_changed = λ z. counts.zone_changed z ∙ cover_sum (changes_in z) sheet areas cover;
-      plate_changed = λ c. counts.plate_changed c ∙ cover_sum (changes_plate c) sheet areas cover;
+      zone_changed = λ z. counts.zone_changed z ∙ cover_sum (changes_in traps z) sheet areas cover;
+      plate_changed = λ c. counts.plate_changed c ∙ cover_sum (changes_plate traps c) sheet areas cover;
       edges = counts.edges ∙ cover_sum edges_at sheet areas cover;
     }

@@ -94,13 +94,13 @@ few_is sheet budget rulers few = subst (λ (n : ℕ). (rulers.across.most ≡ wo
 step_is : (sheet : PageParts) (step : ℕ) → IsStepOf (outline_sheet sheet) step → IsStepOf sheet step
 step_is sheet step is = record { some = is.some; alone = is.alone; exact = is.exact; least = is.least }
 
-rulers_fit : (sheet : PageParts) (budget : Budget) (least : ℕ) (rulers : Rulers) → FitRulers (outline_sheet sheet) budget least rulers → FitRulers sheet budget least rulers
-rulers_fit sheet budget least rulers fit = record {
+rulers_fit : (halo : ℕ) (sheet : PageParts) (budget : Budget) (least : ℕ) (rulers : Rulers) → FitRulers halo (outline_sheet sheet) budget least rulers → FitRulers halo sheet budget least rulers
+rulers_fit halo sheet budget least rulers fit = record {
   fit = record {
     wide = fit.fit.wide ∙ width_is sheet;
     tall = fit.fit.tall ∙ height_is sheet;
-    halo_across = fit.fit.halo_across ∙ ap halo (reach_is sheet);
-    halo_down = fit.fit.halo_down ∙ ap halo (reach_is sheet);
+    halo_across = fit.fit.halo_across;
+    halo_down = fit.fit.halo_down;
     from_left = fit.fit.from_left;
     from_bottom = fit.fit.from_bottom;
     step_across = fit.fit.step_across;
@@ -120,10 +120,10 @@ rulers_fit sheet budget least rulers fit = record {
   few_samples = few_is sheet budget rulers fit.few_samples;
 }
 
-plan_is : (sheet : PageParts) (budget : Budget) (plan : Plan) → IsPlan (outline_sheet sheet) budget plan → IsPlan sheet budget plan
-plan_is sheet budget (Strips rulers) is = (sym (cut_fault_is sheet) ∙ is.0, rulers_fit sheet budget (even_workspace rulers.down) rulers is.1, is.2)
-plan_is sheet budget (Windows rulers) is = (sym (cut_fault_is sheet) ∙ is.0, rulers_fit sheet budget (workspace rulers.down) rulers is.1, subst (λ (n : ℕ). 160000000 < workspace rulers.across * even_workspace rulers.down * n) (plates_is sheet) is.2)
-plan_is sheet budget Page is = (subst IsSome (cut_fault_is sheet) is.0, sym (is_large_is sheet) ∙ is.1)
+plan_is : (halo : ℕ) (sheet : PageParts) (budget : Budget) (plan : Plan) → IsPlan halo (outline_sheet sheet) budget plan → IsPlan halo sheet budget plan
+plan_is halo sheet budget (Strips rulers) is = (sym (cut_fault_is sheet) ∙ is.0, rulers_fit halo sheet budget (even_workspace rulers.down) rulers is.1, is.2)
+plan_is halo sheet budget (Windows rulers) is = (sym (cut_fault_is sheet) ∙ is.0, rulers_fit halo sheet budget (workspace rulers.down) rulers is.1, subst (λ (n : ℕ). 160000000 < workspace rulers.across * even_workspace rulers.down * n) (plates_is sheet) is.2)
+plan_is halo sheet budget Page is = (subst IsSome (cut_fault_is sheet) is.0, sym (is_large_is sheet) ∙ is.1)
 
 outline_plane_ok : (plane : Plane) → IsSheetPlane plane → IsOutlinePlane (outline_plane plane)
 outline_plane_ok plane is = record {
@@ -220,6 +220,6 @@ law_of sheet = record {
   is_large = is_large_is sheet;
   same_error = error_is sheet;
   reach = reach_is sheet;
-  plan = λ budget plan is. plan_is sheet budget plan is;
+  plan = λ halo budget plan is. plan_is halo sheet budget plan is;
   outline = λ is. outline_is sheet is;
 }

@@ -32,7 +32,7 @@ if_false b x y e = rw e refl
 pub if_true : (b : Bool) (x y : ℕ) → b ≡ true → (if b then x else y) ≡ x
 if_true b x y e = rw e refl
 
-module _ (sheet : PageParts) (across down : Ruler) (some_plates : 1 ≤ plates sheet) (some_zones : 1 ≤ length sheet.zones) (are : AreRulers sheet across down) where
+module _ (halo : ℕ) (sheet : PageParts) (across down : Ruler) (some_plates : 1 ≤ plates sheet) (some_zones : 1 ≤ length sheet.zones) (are : AreRulers halo sheet across down) where
   cut_is : (x y : ℕ) (column row : Span) → IsSpan across x column → IsSpan down y row → IsCut sheet (tile_of column row).cut
   cut_is x y column row cx cy = record {
     some_plates = some_plates;
@@ -47,7 +47,7 @@ module _ (sheet : PageParts) (across down : Ruler) (some_plates : 1 ≤ plates s
         (ap (λ (n : ℕ). n % down.step) (ap (λ (n : ℕ). n - (row.from + row.wide)) (sym are.tall) ∙ sym (if_true down.from_end (down.side - (row.from + row.wide)) row.from are.from_bottom)) ∙ cy.exact);
   }
 
-  core_is : (x y : ℕ) (column row : Span) → IsSpan across x column → IsSpan down y row → IsCore sheet (tile_of column row).cut (tile_of column row).core
+  core_is : (x y : ℕ) (column row : Span) → IsSpan across x column → IsSpan down y row → IsCore halo sheet (tile_of column row).cut (tile_of column row).core
   core_is x y column row cx cy = record {
     across = cx.core;
     down = cy.core;
@@ -57,7 +57,7 @@ module _ (sheet : PageParts) (across down : Ruler) (some_plates : 1 ≤ plates s
     bottom = λ more. (let a = cy.after (let t = are.tall in omega (arith, more, t)) in subst (λ (h : ℕ). row.skip + row.core + max 1 h ≤ row.wide) are.halo_down a);
   }
 
-  tile_is : (x y : ℕ) (column row : Span) → IsSpan across x column → IsSpan down y row → IsTile sheet (tile_of column row) x y row.core
+  tile_is : (x y : ℕ) (column row : Span) → IsSpan across x column → IsSpan down y row → IsTile halo sheet (tile_of column row) x y row.core
   tile_is x y column row cx cy = record { cut = cut_is x y column row cx cy; core = core_is x y column row cx cy; left = cx.begins; top = cy.begins; tall = refl }
 
   small_is : (x y : ℕ) (column row : Span) → IsSpan across x column → IsSpan down y row → AreSmall sheet across down → IsSmall sheet (tile_of column row).cut
@@ -69,13 +69,13 @@ module _ (sheet : PageParts) (across down : Ruler) (some_plates : 1 ≤ plates s
         let few = small.few_samples in omega (arith, b, few));
   }
 
-  pub strip_is : (columns : List Span) (x y : ℕ) (row : Span) → IsSpan down y row → AreSpans across x columns (width sheet) → IsStrip sheet y row.core x (map (λ column. tile_of column row) columns)
+  pub strip_is : (columns : List Span) (x y : ℕ) (row : Span) → IsSpan down y row → AreSpans across x columns (width sheet) → IsStrip halo sheet y row.core x (map (λ column. tile_of column row) columns)
   strip_is [] x y row cy spans = spans
   strip_is (column ∷ columns) x y row cy spans = (tile_is x y column row spans.0 cy, strip_is columns (x + column.core) y row cy spans.1)
 
-  tiling_is : (columns rows : List Span) (y : ℕ) → AreSpans across 0 columns (width sheet) → AreSpans down y rows (height sheet) → IsTiling sheet y (map (strip_of columns) rows)
+  tiling_is : (columns rows : List Span) (y : ℕ) → AreSpans across 0 columns (width sheet) → AreSpans down y rows (height sheet) → IsTiling halo sheet y (map (strip_of columns) rows)
   tiling_is columns [] y cs rs = rs
   tiling_is columns (row ∷ rows) y cs rs = (strip_is columns 0 y row rs.0 cs, tiling_is columns rows (y + row.core) cs rs.1)
 
-  pub plan_law : PlanLaw sheet across down
+  pub plan_law : PlanLaw halo sheet across down
   plan_law = record { tiles = tile_is; small = small_is; tiling = λ columns rows cs rs. tiling_is columns rows 0 cs rs }

@@ -11,10 +11,10 @@ share most part n l =
     omega (arith, a, b)
 
 -- a window that is as small as may be has few samples
-pub least_few : (workspace plates : ℕ) → workspace ≤ 2304 → plates ≤ 16 → workspace * workspace * plates ≤ 160000000
+pub least_few : (workspace plates : ℕ) → workspace ≤ 2816 → plates ≤ 16 → workspace * workspace * plates ≤ 160000000
 least_few workspace plates small few =
-    let a : workspace * workspace ≤ 2304 * 2304 = mul-le-mul small small in
-    let b : workspace * workspace * plates ≤ 2304 * 2304 * 16 = mul-le-mul a few in
+    let a : workspace * workspace ≤ 2816 * 2816 = mul-le-mul small small in
+    let b : workspace * workspace * plates ≤ 2816 * 2816 * 16 = mul-le-mul a few in
     omega (arith, b)
 
 -- what the greater of a number and of a lesser one is bounded by

@@ -54,8 +54,8 @@ window_near sheet cut is near = all_mapped (λ (z : Zone). All (IsNearVertex she
 no_way : (r : ℕ) → (720000 * 0) / r * r ≡ 720000 * 0
 no_way r = (let e : (720000 * 0) / r ≡ 0 = omega arith in ap (λ (n : ℕ). n * r) e ∙ omega arith)
 
-pub strip_law : (sheet : PageParts) (across down : Ruler) (at : ℕ) (row : Span) → IsSheet sheet → IsNearSheet sheet → AreRulers sheet across down → IsSpan down at row → 1 ≤ width sheet → StripLaw sheet at row
-strip_law sheet across down at row ok near are is some =
+pub strip_law : (halo : ℕ) (sheet : PageParts) (across down : Ruler) (at : ℕ) (row : Span) → IsSheet sheet → IsNearSheet sheet → AreRulers halo sheet across down → IsSpan down at row → 1 ≤ width sheet → StripLaw halo sheet at row
+strip_law halo sheet across down at row ok near are is some =
     let cut : Cut = (strip_tile sheet row).cut in
     let cut_is : IsCut sheet cut = record {
       some_plates = ok.parts.some_plates;

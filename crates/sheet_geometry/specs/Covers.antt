@@ -5,7 +5,7 @@ use Rattle.page_model.specs.declared.parts.PageParts.{PageParts}
 use Rattle.page_model.specs.Counts.{deciding_edges, plate_changed, zone_changed, zone_samples}
 use Rattle.page_model.specs.Page.{InPage, height, width}
 use Rattle.sheet_geometry.specs.declared.cuts.Cut.{Cut}
-use Rattle.sheet_geometry.specs.Areas.{area_sum, changes_in, changes_plate, edges_at, lies_in}
+use Rattle.sheet_geometry.specs.Areas.{area_sum, changes_in, changes_plate, edges_at, lies_in, traps}
 
 -- stands where there is no area
 abbrev pub no_area : Cut
@@ -43,7 +43,7 @@ areas_sum f sheet areas = sum_by (λ (area : Cut).
 -- each count of the report is the sum of the counts of the areas
 pub record CoverLaw (sheet : PageParts) (areas : List Cut) : Type 0 where
   pub zone_samples : (z : ℕ) → zone_samples sheet z ≡ areas_sum (lies_in z) sheet areas
-  pub zone_changed : (z : ℕ) → zone_changed sheet z ≡ areas_sum (changes_in z) sheet areas
+  pub zone_changed : (z : ℕ) → zone_changed sheet z ≡ areas_sum (changes_in traps z) sheet areas
   pub plate_changed : (c : ℕ)
-      → plate_changed sheet c ≡ areas_sum (changes_plate c) sheet areas
+      → plate_changed sheet c ≡ areas_sum (changes_plate traps c) sheet areas
   pub edges : deciding_edges sheet ≡ areas_sum edges_at sheet areas

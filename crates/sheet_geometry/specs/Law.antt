@@ -1,5 +1,5 @@
 -- What of a sheet rests on all of it but its tints.
-use Rattle.std.specs.Prelude.{◌≡◌}
+use Rattle.std.specs.Prelude.{◌≡◌, ℕ}
 use Rattle.page_model.specs.declared.parts.PageParts.{PageParts}
 use Rattle.page_model.specs.Page.{height, maxval, plates, width}
 use Rattle.page_model.specs.Reach.{page_reach}
@@ -21,6 +21,6 @@ pub record OutlineLaw (sheet : PageParts) : Type 0 where
   pub is_large : is_large (outline_sheet sheet) ≡ is_large sheet
   pub same_error : sheet_error (outline_sheet sheet) ≡ sheet_error sheet
   pub reach : page_reach (outline_sheet sheet) ≡ page_reach sheet
-  pub plan : (budget : Budget) (plan : Plan) → IsPlan (outline_sheet sheet) budget plan
-      → IsPlan sheet budget plan
+  pub plan : (near : ℕ) (budget : Budget) (plan : Plan)
+      → IsPlan near (outline_sheet sheet) budget plan → IsPlan near sheet budget plan
   pub outline : IsSheet sheet → IsOutlineSheet (outline_sheet sheet)

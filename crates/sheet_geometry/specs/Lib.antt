@@ -1,5 +1,6 @@
 pub mod Windows
 pub mod WindowLaw
+pub mod PageRules
 pub mod Areas
 pub mod Covers
 pub mod Tiles

@@ -5,7 +5,6 @@ use Rattle.page_model.specs.declared.parts.PageParts.{PageParts}
 use Rattle.page_model.specs.Columns.{halo}
 use Rattle.page_model.specs.Limits.{most_samples}
 use Rattle.page_model.specs.Page.{plates}
-use Rattle.page_model.specs.Reach.{page_reach}
 use Rattle.sheet_geometry.specs.declared.budget.Budget.{Budget}
 use Rattle.sheet_geometry.specs.CommonErrors.{cut_fault, is_large, most_step}
 use Rattle.sheet_geometry.specs.declared.plan.Least.{Least}
@@ -13,8 +12,13 @@ use Rattle.sheet_geometry.specs.declared.plan.Plan.{Plan}
 use Rattle.sheet_geometry.specs.declared.plan.Plan.TheVariants.{Page, Strips, Windows}
 use Rattle.sheet_geometry.specs.declared.plan.Rulers.{Rulers}
 use Rattle.sheet_geometry.specs.declared.spans.Ruler.{Ruler}
+use Rattle.sheet_geometry.specs.PageRules.{PageRule}
 use Rattle.sheet_geometry.specs.Plans.{AreRulers, AreSmall, IsStep}
 use Rattle.sheet_geometry.specs.Spans.{IsEvenRuler, IsRuler}
+
+-- the widest halo: three times the widest reach, which is how far keepaway follows thin ink
+abbrev pub most_halo : ℕ
+most_halo = 384
 
 -- the step by which a sheet is cut: the least one where it has paths, and else a sample
 pub record IsStepOf (sheet : PageParts) (step : ℕ) : Type 0 where
@@ -32,11 +36,11 @@ workspace ruler = 2 * max 1 ruler.halo + ruler.step
 abbrev pub even_workspace : Ruler → ℕ
 even_workspace ruler = 2 * max 1 ruler.halo + 2 * ruler.step - 1
 
--- Rulers that a sheet can be cut by, within a budget. Its windows have at least `least` rows, and
--- no more where the budget has fewer.
-pub record FitRulers (outline : PageParts) (budget : Budget) (least : ℕ) (rulers : Rulers)
-    : Type 0 where
-  pub fit : AreRulers outline rulers.across rulers.down
+-- Rulers that a sheet can be cut by, for windows with that halo, within a budget. Its windows have
+-- at least `least` rows, and no more where the budget has fewer.
+pub record FitRulers (near : ℕ) (outline : PageParts) (budget : Budget) (least : ℕ)
+    (rulers : Rulers) : Type 0 where
+  pub fit : AreRulers near outline rulers.across rulers.down
   pub step_across : IsStepOf outline rulers.across.step
   pub step_down : IsStepOf outline rulers.down.step
   pub small : AreSmall outline rulers.across rulers.down
@@ -50,27 +54,31 @@ pub record FitRulers (outline : PageParts) (budget : Budget) (least : ℕ) (rule
 -- Strips of one height where the sheet can be cut. Windows, of all rows at once, where the least
 -- window of such a strip has more samples than a page. Where it cannot be cut, it is a page as it
 -- stands.
-abbrev pub IsPlan : PageParts → Budget → Plan → Type 0
-IsPlan outline budget (Strips rulers) = (cut_fault outline ≡ None)
-    × FitRulers outline budget (even_workspace rulers.down) rulers × IsEvenRuler rulers.down
-IsPlan outline budget (Windows rulers) = (cut_fault outline ≡ None)
-    × FitRulers outline budget (workspace rulers.down) rulers
+abbrev pub IsPlan : ℕ → PageParts → Budget → Plan → Type 0
+IsPlan near outline budget (Strips rulers) = (cut_fault outline ≡ None)
+    × FitRulers near outline budget (even_workspace rulers.down) rulers × IsEvenRuler rulers.down
+IsPlan near outline budget (Windows rulers) = (cut_fault outline ≡ None)
+    × FitRulers near outline budget (workspace rulers.down) rulers
     × (most_samples < workspace rulers.across * even_workspace rulers.down * plates outline)
-IsPlan outline budget Page = IsSome (cut_fault outline) × (is_large outline ≡ false)
+IsPlan near outline budget Page = IsSome (cut_fault outline) × (is_large outline ≡ false)
 
--- the halo and the step of a sheet, and the least sides of its windows by them
-pub record IsLeast (outline : PageParts) (least : Least) : Type 0 where
-  pub halo_is : least.halo ≡ halo (page_reach outline)
-  pub near : least.halo ≤ 128
+-- how a sheet is to be cut for a rule
+abbrev pub IsPlanFor : PageRule → PageParts → Budget → Plan → Type 0
+IsPlanFor rule outline budget plan = IsPlan (halo (rule.reach outline)) outline budget plan
+
+-- a halo, the step of a sheet, and the least sides of its windows by them
+pub record IsLeast (wide : ℕ) (outline : PageParts) (least : Least) : Type 0 where
+  pub halo_is : least.halo ≡ wide
+  pub near : least.halo ≤ most_halo
   pub step_is : IsStepOf outline least.step
   pub short : least.step ≤ most_step
   pub columns_are : least.columns ≡ 2 * max 1 least.halo + least.step
   pub rows_are : least.rows ≡ 2 * max 1 least.halo + 2 * least.step - 1
 
 -- rulers by that halo and step, for windows of at least `rows` rows
-pub record IsCutBy (outline : PageParts) (budget : Budget) (least : Least) (rows : ℕ)
+pub record IsCutBy (near : ℕ) (outline : PageParts) (budget : Budget) (least : Least) (rows : ℕ)
     (rulers : Rulers) : Type 0 where
-  pub fits : FitRulers outline budget rows rulers
+  pub fits : FitRulers near outline budget rows rulers
   pub halo_across : rulers.across.halo ≡ least.halo
   pub step_across : rulers.across.step ≡ least.step
   pub halo_down : rulers.down.halo ≡ least.halo

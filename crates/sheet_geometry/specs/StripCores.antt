@@ -1,9 +1,9 @@
--- A strip is trapped as a sheet of its own: the rows of its core are rows of the sheet.
+-- A strip is worked on as a sheet of its own: the rows of its core are rows of the sheet.
 use Rattle.std.specs.Prelude.{◌≡◌, ℕ, ◌+◌, ◌*◌, ◌<◌, List, map}
 use Rattle.lists.specs.Words.{list_below}
 use Rattle.page_model.specs.declared.parts.PageParts.{PageParts}
 use Rattle.page_model.specs.Page.{sample_at, width}
-use Rattle.page_model.specs.Tints.{new}
+use Rattle.sheet_geometry.specs.PageRules.{PageRule}
 use Rattle.sheet_geometry.specs.declared.spans.Ruler.{Ruler}
 use Rattle.sheet_geometry.specs.declared.spans.Span.{Span}
 use Rattle.sheet_geometry.specs.Plans.{AreRulers, AreSmall, tile_of}
@@ -26,20 +26,21 @@ inner_ruler down row = record {
 }
 
 -- the new tints of `count` samples of plate c of a sheet, from sample `first` on
-abbrev pub new_from : PageParts → ℕ → ℕ → ℕ → List ℕ
-new_from sheet c first count = list_below (λ i. new sheet (sample_at sheet (first + i)) c) count
+abbrev pub new_from : PageRule → PageParts → ℕ → ℕ → ℕ → List ℕ
+new_from rule sheet c first count =
+    list_below (λ i. rule.tint sheet (sample_at sheet (first + i)) c) count
 
 -- The strip can be cut by the columns of the sheet, its windows are as small, and the rows of its
 -- core, window after window, are those of the sheet.
-pub record StripCoreLaw (sheet : PageParts) (across down : Ruler) (at : ℕ)
-    (row : Span) : Type 0 where
-  pub rulers : AreRulers (strip_parts sheet row) across (inner_ruler down row)
+pub record StripCoreLaw (near : ℕ) (rule : PageRule) (sheet : PageParts) (across down : Ruler)
+    (at : ℕ) (row : Span) : Type 0 where
+  pub rulers : AreRulers near (strip_parts sheet row) across (inner_ruler down row)
   pub small : AreSmall sheet across down
       → AreSmall (strip_parts sheet row) across (inner_ruler down row)
   pub rows : IsRuler down → IsRuler (inner_ruler down row)
   pub span : IsSpan (inner_ruler down row) row.skip (inner_row row)
   pub tints : (columns : List Span) (c k : ℕ) → AreSpans across 0 columns (width sheet)
       → k < row.core
-      → strip_row c (strip_parts sheet row) k
+      → strip_row rule c (strip_parts sheet row) k
       (map (λ column. tile_of column (inner_row row)) columns)
-      ≡ new_from sheet c ((at + k) * width sheet) (width sheet)
+      ≡ new_from rule sheet c ((at + k) * width sheet) (width sheet)

@@ -19,7 +19,7 @@ abbrev pub strip_parts : PageParts → Span → PageParts
 strip_parts sheet row = window sheet (strip_tile sheet row).cut
 
 -- the strip is a tile of the sheet, and a sheet
-pub record StripLaw (sheet : PageParts) (at : ℕ) (row : Span) : Type 0 where
-  pub tile : IsTile sheet (strip_tile sheet row) 0 at row.core
+pub record StripLaw (halo : ℕ) (sheet : PageParts) (at : ℕ) (row : Span) : Type 0 where
+  pub tile : IsTile halo sheet (strip_tile sheet row) 0 at row.core
   pub ranges : IsSheet (strip_parts sheet row)
   pub near : IsNearSheet (strip_parts sheet row)

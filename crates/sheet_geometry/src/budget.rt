@@ -16,7 +16,7 @@ pub struct Budget {
 /// The most rows of a window within the budget, where it has at least `columns` columns and `rows` rows.
 pub fn most_rows(columns: u32, rows: u32, plates: u32, budget: &Budget) -> u32
     requires some_columns { 1 ≤ columns }
-    requires few_columns { columns ≤ 2304 }
+    requires few_columns { columns ≤ 2816 }
     requires few_rows { rows ≤ most_side }
     requires some_plates { 1 ≤ plates }
     requires few_plates { plates ≤ most_plates }
@@ -35,7 +35,7 @@ pub fn most_rows(columns: u32, rows: u32, plates: u32, budget: &Budget) -> u32
 /// The most columns of a window with `rows` rows.
 pub fn most_columns(workspace: u32, rows: u32, plates: u32, budget: &Budget) -> u32
     requires some_workspace { 1 ≤ workspace }
-    requires small_workspace { workspace ≤ 2304 }
+    requires small_workspace { workspace ≤ 2816 }
     requires some_rows { 1 ≤ rows }
     requires few_rows { rows ≤ most_side }
     requires some_plates { 1 ≤ plates }

@@ -6,8 +6,9 @@ ghost use Rattle.page_model.specs.Limits.{most_plates, most_samples, most_side};
 ghost use Rattle.page_model.specs.Page.{height, plates, width};
 ghost use Rattle.page_model.specs.Reach.{page_reach};
 ghost use Rattle.sheet_geometry.specs.CommonErrors.{cut_fault, large_fault, most_step, sheet_error, uncut};
+ghost use Rattle.sheet_geometry.specs.Areas.{traps};
 ghost use Rattle.sheet_geometry.specs.Plans.{IsStep};
-ghost use Rattle.sheet_geometry.specs.Planned.{IsLeast, FitRulers, IsCutBy, IsPlan};
+ghost use Rattle.sheet_geometry.specs.Planned.{IsLeast, FitRulers, IsCutBy, IsPlan, IsPlanFor, most_halo};
 ghost use Rattle.sheet_geometry.specs.Outline.{IsOutlineSheet, IsOutlineParts};
 
 use crate::budget::{Budget, most_columns, most_rows};
@@ -39,7 +40,7 @@ pub enum Plan {
     Page,
 }
 
-/// Decides how a sheet is trapped within a budget for each window, or returns the first of its faults: of the first
+/// Decides how a sheet that is to be trapped is cut, within a budget for each window, or returns the first of its faults: of the first
 /// plate that differs from plate 0, then of the first zone that reaches too far, and then, above the limits of a page,
 /// of the first zone with a vertex too far from a corner of the sheet, and of the step. No tint is read.
 #[tactic(auto, using(crate::proofs::OutlineLemmas::outline_from))]
@@ -47,28 +48,29 @@ pub fn plan_sheet(sheet: &PageParts, budget: &Budget) -> Result<Plan, SheetError
     requires parts { IsOutlineParts sheet.now }
     requires narrow { width sheet.now < 2 ^ 30 }
     requires low { height sheet.now < 2 ^ 30 }
-    ensures plan { IfOk result (IsPlan sheet.now budget.now) }
+    ensures plan { IfOk result (IsPlanFor traps sheet.now budget.now) }
     ensures accepted { OnOk result (sheet_error sheet.now ≡ None) }
     ensures valid { OnOk result (IsOutlineSheet sheet.now) }
     ensures refused { IfErr result (λ error. sheet_error sheet.now ≡ Some error) }
 {
     match parts_fault_of(sheet) {
         Some(fault) => Err(SheetError::Fault(fault)),
-        None => plan_without_fault(sheet, budget),
+        None => plan_with(sheet, halo_of(sheet), budget),
     }
 }
 
-// How a sheet without a fault of a page is trapped, or why it can't be.
-fn plan_without_fault(sheet: &PageParts, budget: &Budget) -> Result<Plan, SheetError>
+/// Decides how a sheet without a fault of a page is cut, for windows with a halo of so many samples, or why it can't be.
+pub fn plan_with(sheet: &PageParts, near: u32, budget: &Budget) -> Result<Plan, SheetError>
     requires sheet { IsOutlineSheet sheet.now }
+    requires near { near ≤ most_halo }
     requires narrow { width sheet.now < 2 ^ 30 }
     requires low { height sheet.now < 2 ^ 30 }
-    ensures plan { IfOk result (IsPlan sheet.now budget.now) }
+    ensures plan { IfOk result (IsPlan near sheet.now budget.now) }
     ensures accepted { OnOk result (large_fault sheet.now ≡ None) }
     ensures refused { IfErr result (λ error. large_fault sheet.now ≡ Some error) }
 {
     match cut_fault_of(sheet) {
-        None => Ok(plan_cut(sheet, budget)),
+        None => Ok(plan_cut(sheet, near, budget)),
         Some(error) => {
             if is_large_sheet(sheet) {
                 Err(error)
@@ -89,35 +91,37 @@ struct Least {
     rows: u32,
 }
 
-// How a sheet that can be cut is trapped.
-fn plan_cut(sheet: &PageParts, budget: &Budget) -> Plan
+// How a sheet that can be cut is cut.
+fn plan_cut(sheet: &PageParts, near: u32, budget: &Budget) -> Plan
     requires sheet { IsOutlineSheet sheet.now }
+    requires near { near ≤ most_halo }
     requires narrow { width sheet.now < 2 ^ 30 }
     requires low { height sheet.now < 2 ^ 30 }
     requires cut { cut_fault sheet.now ≡ None }
-    ensures { IsPlan sheet.now budget.now result }
+    ensures { IsPlan near sheet.now budget.now result }
 {
-    plan_by(sheet, least_of(sheet), budget)
+    plan_by(sheet, least_of(sheet, near), budget)
 }
 
-fn least_of(sheet: &PageParts) -> Least
+fn least_of(sheet: &PageParts, near: u32) -> Least
     requires sheet { IsOutlineSheet sheet.now }
+    requires near { near ≤ most_halo }
     requires cut { cut_fault sheet.now ≡ None }
-    ensures { IsLeast sheet.now result }
+    ensures { IsLeast near sheet.now result }
 {
-    least_by(sheet)
+    least_by(sheet, near)
 }
 
-fn least_by(sheet: &PageParts) -> Least
+fn least_by(sheet: &PageParts, near: u32) -> Least
     requires sheet { IsOutlineSheet sheet.now }
+    requires near { near ≤ most_halo }
     requires cut { uncut sheet.now ≡ None }
-    ensures { IsLeast sheet.now result }
+    ensures { IsLeast near sheet.now result }
 {
     let step = sheet_step(sheet);
-    let halo = halo_of(sheet);
-    let columns = 2 * halo.max(1) + step;
+    let columns = 2 * near.max(1) + step;
     Least {
-        halo,
+        halo: near,
         step,
         columns,
         rows: columns + step - 1,
@@ -129,8 +133,8 @@ fn plan_by(sheet: &PageParts, least: Least, budget: &Budget) -> Plan
     requires narrow { width sheet.now < 2 ^ 30 }
     requires low { height sheet.now < 2 ^ 30 }
     requires cut { cut_fault sheet.now ≡ None }
-    requires least { IsLeast sheet.now least }
-    ensures { IsPlan sheet.now budget.now result }
+    requires least { IsLeast least.halo sheet.now least }
+    ensures { IsPlan least.halo sheet.now budget.now result }
 {
     let plates = sheet.planes.len() as u32;
     let samples = u64::from(least.columns) * u64::from(least.rows) * u64::from(plates);
@@ -146,11 +150,11 @@ fn rulers_of(sheet: &PageParts, least: Least, rows: u32, budget: &Budget) -> Rul
     requires sheet { IsOutlineSheet sheet.now }
     requires narrow { width sheet.now < 2 ^ 30 }
     requires low { height sheet.now < 2 ^ 30 }
-    requires least { IsLeast sheet.now least }
+    requires least { IsLeast least.halo sheet.now least }
     requires workspace { least.columns ≤ rows }
     requires few_rows { rows ≤ most_side }
     requires few_samples { least.columns * rows * plates sheet.now ≤ most_samples }
-    ensures { IsCutBy sheet.now budget.now least rows result }
+    ensures { IsCutBy least.halo sheet.now budget.now least rows result }
 {
     let planes = sheet.planes.as_slice();
     let plates = planes.len() as u32;
@@ -179,7 +183,7 @@ fn columns_for(side: u32, least: Least, rows: u32, plates: u32, budget: &Budget)
     requires side { side < 2 ^ 30 }
     requires some_step { 1 ≤ least.step }
     requires columns { least.columns ≡ 2 * max 1 least.halo + least.step }
-    requires small_workspace { least.columns ≤ 2304 }
+    requires small_workspace { least.columns ≤ 2816 }
     requires some_rows { 1 ≤ rows }
     requires few_rows { rows ≤ most_side }
     requires some_plates { 1 ≤ plates }

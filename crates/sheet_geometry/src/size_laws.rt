@@ -3,7 +3,9 @@
 ghost use Rattle.std.specs.Prelude.{◌≡◌, ◌+◌, ◌<◌, ◌≤◌, ◌^◌, ℕ, All, List, None};
 ghost use Rattle.page_model.specs.declared.parts.PageParts.{PageParts};
 ghost use Rattle.page_model.specs.declared.parts.Plane.{Plane};
+ghost use Rattle.page_model.specs.Columns.{halo};
 ghost use Rattle.page_model.specs.Page.{height, width};
+ghost use Rattle.sheet_geometry.specs.PageRules.{IsLocal, PageRule};
 ghost use Rattle.sheet_geometry.specs.CommonErrors.{cut_fault};
 ghost use Rattle.sheet_geometry.specs.Begun.{BeginsEarlier, BeginsWith, MayBegin};
 ghost use Rattle.sheet_geometry.specs.Law.{OutlineLaw};
@@ -53,9 +55,10 @@ pub fn strip_rows_law()
         → planes ≡ (strip_parts sheet row).planes }
 {}
 
-/// The rows of a strip's core, trapped in windows of the strip, are rows of the sheet.
+/// The rows of a strip's core, worked on in windows of the strip, are rows of the sheet.
 pub fn strip_core_law()
-    ensures { (sheet : PageParts) (across down : Ruler) (at : ℕ) (row : Span) → IsSheet sheet
-        → IsNearSheet sheet → AreRulers sheet across down → IsSpan down at row
-        → StripCoreLaw sheet across down at row }
+    ensures { (near : ℕ) (rule : PageRule) (sheet : PageParts) (across down : Ruler) (at : ℕ)
+        (row : Span) → IsLocal rule → halo (rule.reach sheet) ≤ near → IsSheet sheet
+        → IsNearSheet sheet → AreRulers near sheet across down → IsSpan down at row
+        → StripCoreLaw near rule sheet across down at row }
 {}

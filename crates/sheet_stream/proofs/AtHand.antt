@@ -1,7 +1,8 @@
 -- The strip at hand is that strip of each sheet that begins with what was read.
 use Rattle.std.proofs.Common.{◌≡◌, ℕ, ◌+◌, ◌<◌, ◌≤◌, List, map, sym, subst, arith}
+use Rattle.sheet_geometry.specs.Areas.{traps}
 use Rattle.sheet_geometry.specs.Begun.{BeginsWith, MayBegin}
-use Rattle.sheet_geometry.specs.StripCores.{StripCoreLaw}
+use Rattle.sheet_geometry.specs.StripCores.{StripCoreLaw, inner_ruler}
 use Rattle.sheet_geometry.proofs.BegunLemmas.{some_sheet}
 use Rattle.sheet_geometry.proofs.CoreLemmas.{core_law}
 use Rattle.page_model.specs.declared.parts.PageParts.{PageParts}
@@ -15,7 +16,7 @@ use Rattle.sheet_stream.specs.StoredStrips.{IsStripOf}
 use Rattle.sheet_stream.proofs.HoldLemmas.{strip_made}
 use Rattle.sheet_stream.proofs.TurnLemmas.{have_form}
 use Rattle.sheet_geometry.specs.declared.spans.Span.{Span}
-use Rattle.sheet_geometry.specs.Plans.{AreRulers, AreSmall}
+use Rattle.sheet_geometry.specs.Plans.{AreRulersFor, AreSmall, AreRulers}
 use Rattle.sheet_geometry.specs.Spans.{IsSpan}
 use Rattle.sheet_geometry.specs.Strips.{StripLaw, strip_parts, strip_tile}
 use Rattle.sheet_geometry.proofs.Parts.{height-is, width-is}
@@ -24,6 +25,10 @@ use Rattle.sheet_stream.specs.declared.parts.StripPlan.{StripPlan}
 use Rattle.sheet_stream.specs.OnSheet.{strip_cut}
 use Rattle.sheet_geometry.specs.Forms.{form_of, zone_form}
 use Rattle.sheet_geometry.specs.WindowSheets.{IsCuttable}
+use Rattle.page_model.specs.Columns.{halo}
+use Rattle.page_model.specs.Reach.{page_reach}
+use Rattle.sheet_geometry.proofs.Tiles.{traps_local}
+use Rattle.sheet_geometry.proofs.Windows.{reach-same}
 
 -- parts with as many plates, the same inks, and zones of one form have one form
 form_same : (one two : PageParts) → plates one ≡ plates two → one.inks ≡ two.inks → map zone_form one.zones ≡ map zone_form two.zones → form_of one ≡ form_of two
@@ -63,7 +68,7 @@ module _ (outline : PageParts) (plan : StripPlan) (row : Span) (strip : PagePart
     pub cut_is : IsCuttable sheet
     cut_is = cuttable outline sheet tints begins can.cut can.narrow can.low
 
-    pub rulers : AreRulers sheet plan.across plan.down
+    pub rulers : AreRulersFor traps sheet plan.across plan.down
     rulers = rulers_same outline sheet tints begins plan.across plan.down can.rulers
 
     pub small : AreSmall sheet plan.across plan.down
@@ -72,11 +77,11 @@ module _ (outline : PageParts) (plan : StripPlan) (row : Span) (strip : PagePart
     some_wide : 1 ≤ width sheet
     some_wide = (begins.valid.parts.planes_in_range 0 no_plane (let p = begins.valid.parts.some_plates in omega (arith, p))).some_width
 
-    law : StripLaw sheet (core_top row) row
-    law = strip_law sheet plan.across plan.down (core_top row) row begins.valid cut_is.near rulers is.span some_wide
+    law : StripLaw (halo (page_reach sheet)) sheet (core_top row) row
+    law = strip_law (halo (page_reach sheet)) sheet plan.across plan.down (core_top row) row begins.valid cut_is.near rulers is.span some_wide
 
-    core : StripCoreLaw sheet plan.across plan.down (core_top row) row
-    core = core_law sheet plan.across plan.down (core_top row) row begins.valid cut_is.near rulers is.span
+    core : StripCoreLaw (halo (page_reach sheet)) traps sheet plan.across plan.down (core_top row) row
+    core = core_law (halo (page_reach sheet)) sheet plan.across plan.down (core_top row) row begins.valid cut_is.near rulers is.span traps traps_local (omega arith)
 
     parts_cuttable : IsCuttable (strip_parts sheet row)
     parts_cuttable = record {
@@ -91,7 +96,7 @@ module _ (outline : PageParts) (plan : StripPlan) (row : Span) (strip : PagePart
 
     pub can_be_cut : CanBeCut strip (strip_cut plan.across plan.down row)
     can_be_cut = record {
-      rulers = subst (λ (s : PageParts). AreRulers s plan.across (strip_cut plan.across plan.down row).down) (sym (made sheet begins)) core.rulers;
+      rulers = subst (λ (s : PageParts). AreRulersFor traps s plan.across (strip_cut plan.across plan.down row).down) (sym (made sheet begins)) (subst (λ (n : ℕ). AreRulers (halo n) (strip_parts sheet row) plan.across (inner_ruler plan.down row)) (sym (reach-same sheet (strip_tile sheet row).cut)) core.rulers);
       small = subst (λ (s : PageParts). AreSmall s plan.across (strip_cut plan.across plan.down row).down) (sym (made sheet begins)) (core.small small);
       row = (let e : row.skip ≡ 0 + row.skip = omega arith in subst (λ (n : ℕ). IsSpan (strip_cut plan.across plan.down row).down n (strip_cut plan.across plan.down row).row) e core.span);
     }

@@ -3,6 +3,7 @@ use Rattle.std.proofs.Common.{◌≡◌, ℕ, ◌*◌, ◌-◌, ◌<◌, ◌≤�
 use Rattle.std.specs.Prelude.{replicate}
 use Rattle.std.proofs.lemmas.List.{length-map, map-append}
 use Rattle.std.proofs.lemmas.List.Elements.{All-map}
+use Rattle.sheet_geometry.specs.Areas.{traps}
 use Rattle.sheet_geometry.specs.Outline.{outline_sheet}
 use Rattle.sheet_geometry.specs.Begun.{BeginsWith, MayBegin}
 use Rattle.sheet_geometry.proofs.OutlineLemmas.{cuttable_is, height_is, law_of, plates_is, width_is}
@@ -13,7 +14,7 @@ use Rattle.sheet_geometry.specs.CommonErrors.{cut_fault}
 use Rattle.sheet_stream.proofs.RowReads.{GoOnTo}
 use Rattle.sheet_stream.specs.RowReading.{tints_for}
 use Rattle.sheet_geometry.specs.declared.spans.Ruler.{Ruler}
-use Rattle.sheet_geometry.specs.Plans.{AreRulers, AreSmall}
+use Rattle.sheet_geometry.specs.Plans.{AreRulersFor, AreSmall}
 use Rattle.sheet_engine.specs.Works.{AreNone}
 use Rattle.sheet_engine.specs.declared.counts.SheetCounts.{SheetCounts}
 use Rattle.sheet_geometry.specs.WindowSheets.{IsCuttable}
@@ -31,9 +32,9 @@ module _ (outline sheet : PageParts) (tints : ℕ → List ℕ) (begins : Begins
   pub zones_same : length sheet.zones ≡ length outline.zones
   zones_same = ap (λ (s : PageParts). length s.zones) begins.same
 
-  pub rulers_same : (across down : Ruler) → AreRulers outline across down → AreRulers sheet across down
+  pub rulers_same : (across down : Ruler) → AreRulersFor traps outline across down → AreRulersFor traps sheet across down
   rulers_same across down are =
-      let own : AreRulers (outline_sheet sheet) across down = subst (λ (s : PageParts). AreRulers s across down) (sym begins.same) are in
+      let own : AreRulersFor traps (outline_sheet sheet) across down = subst (λ (s : PageParts). AreRulersFor traps s across down) (sym begins.same) are in
       record {
         wide = own.wide ∙ width_is sheet;
         tall = own.tall ∙ height_is sheet;

@@ -9,6 +9,7 @@ use Rattle.lists.proofs.ListBelow.{length-list_below, list_below-add}
 use Rattle.lists.proofs.Same.{list_below-same}
 use Rattle.outside.specs.Rack.{RackState}
 use Rattle.outside.specs.Writing.{WritesFile}
+use Rattle.sheet_geometry.specs.Areas.{traps}
 use Rattle.sheet_geometry.specs.StripCores.{new_from}
 use Rattle.sheet_geometry.proofs.CoreLemmas.{row_from}
 use Rattle.page_model.specs.declared.parts.PageParts.{PageParts}
@@ -31,15 +32,18 @@ use Rattle.sheet_stream.specs.declared.core_rows.StripCut.{StripCut}
 use Rattle.sheet_stream.specs.Cores.{AreOpen, IsCutStrip, WritesCore, core_row_of, core_rows_of, core_span_of}
 use Rattle.sheet_engine.specs.declared.workspace.StripWorkspace.{StripWorkspace}
 use Rattle.sheet_engine.specs.Workspaces.{columns_in}
+use Rattle.page_model.specs.Columns.{halo}
+use Rattle.page_model.specs.Reach.{page_reach}
+use Rattle.sheet_geometry.proofs.Tiles.{traps_local}
 
 -- what is put of a row of a plate
-pub row_is : (strip : PageParts) (cut : StripCut) (workspace : StripWorkspace) (k c : ℕ) → IsSheet strip → IsCutStrip strip cut workspace → k < cut.row.core → strip_row c strip k (map (λ (column : Span). tile_of column cut.row) (columns_in workspace)) ≡ core_row_of strip cut k c
+pub row_is : (strip : PageParts) (cut : StripCut) (workspace : StripWorkspace) (k c : ℕ) → IsSheet strip → IsCutStrip strip cut workspace → k < cut.row.core → strip_row traps c strip k (map (λ (column : Span). tile_of column cut.row) (columns_in workspace)) ≡ core_row_of strip cut k c
 row_is strip cut workspace k c ok is l =
-    row_from c strip (map (λ (column : Span). tile_of column cut.row) (columns_in workspace)) cut.row.skip cut.row.core
-    (strip_is strip cut.across cut.down ok.parts.some_plates ok.parts.some_zones is.rulers (columns_in workspace) 0 cut.row.skip cut.row is.row is.columns) k l
+    row_from traps traps_local (halo (page_reach strip)) c strip (omega arith) (map (λ (column : Span). tile_of column cut.row) (columns_in workspace)) cut.row.skip cut.row.core
+    (strip_is (halo (page_reach strip)) strip cut.across cut.down ok.parts.some_plates ok.parts.some_zones is.rulers (columns_in workspace) 0 cut.row.skip cut.row is.row is.columns) k l
 
 -- new tints of a sheet, and those behind them
-pub new_more : (sheet : PageParts) (c first a b : ℕ) → new_from sheet c first a ++ new_from sheet c (first + a) b ≡ new_from sheet c first (a + b)
+pub new_more : (sheet : PageParts) (c first a b : ℕ) → new_from traps sheet c first a ++ new_from traps sheet c (first + a) b ≡ new_from traps sheet c first (a + b)
 new_more sheet c first a b =
     let f : ℕ → ℕ = λ i. new sheet (sample_at sheet (first + i)) c in
     ap (λ (t : List ℕ). list_below f a ++ t) (list_below-same (λ i. new sheet (sample_at sheet (first + a + i)) c) (λ i. f (a + i)) b (λ i l. ap (λ (n : ℕ). new sheet (sample_at sheet n) c) (let e : first + a + i ≡ first + (a + i) = omega arith in e)))
@@ -52,9 +56,9 @@ span_more strip cut k n c =
     let first : ℕ = (cut.row.skip + k) * w in
     let place : (cut.row.skip + (k + n)) * w ≡ first + n * w = omega arith in
     let end : n * w + w ≡ (n + 1) * w = omega arith in
-    ap (λ (from : ℕ). new_from strip c first (n * w) ++ new_from strip c from w) place
+    ap (λ (from : ℕ). new_from traps strip c first (n * w) ++ new_from traps strip c from w) place
     ∙ new_more strip c first (n * w) w
-    ∙ ap (new_from strip c first) end
+    ∙ ap (new_from traps strip c first) end
 
 -- n rows more of a core
 pub core_more : (strip : PageParts) (cut : StripCut) (k n c : ℕ) → core_rows_of strip cut k c ++ core_span_of strip cut k n c ≡ core_rows_of strip cut (k + n) c
@@ -63,12 +67,12 @@ core_more strip cut k n c =
     let first : ℕ = cut.row.skip * w in
     let place : (cut.row.skip + k) * w ≡ first + k * w = omega arith in
     let end : k * w + n * w ≡ (k + n) * w = omega arith in
-    ap (λ (from : ℕ). new_from strip c first (k * w) ++ new_from strip c from (n * w)) place
+    ap (λ (from : ℕ). new_from traps strip c first (k * w) ++ new_from traps strip c from (n * w)) place
     ∙ new_more strip c first (k * w) (n * w)
-    ∙ ap (new_from strip c first) end
+    ∙ ap (new_from traps strip c first) end
 
 pub span_none : (strip : PageParts) (cut : StripCut) (k c : ℕ) → core_span_of strip cut k 0 c ≡ []
-span_none strip cut k c = (let e : 0 * width strip ≡ 0 = omega arith in ap (new_from strip c ((cut.row.skip + k) * width strip)) e)
+span_none strip cut k c = (let e : 0 * width strip ≡ 0 = omega arith in ap (new_from traps strip c ((cut.row.skip + k) * width strip)) e)
 
 pub core_none : (strip : PageParts) (cut : StripCut) (c : ℕ) → core_rows_of strip cut 0 c ≡ []
 core_none strip cut c = (let e : 0 * width strip ≡ 0 = omega arith in ap (list_below (λ i. new strip (sample_at strip (cut.row.skip * width strip + i)) c)) e)

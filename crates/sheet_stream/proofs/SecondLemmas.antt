@@ -6,6 +6,7 @@ use Rattle.std.proofs.lemmas.List.{get_or-replicate, get_or-take}
 use Rattle.lists.specs.Words.{list_below}
 use Rattle.lists.proofs.ListBelow.{list_below-add}
 use Rattle.lists.proofs.Same.{list_below-same}
+use Rattle.sheet_geometry.specs.Areas.{traps}
 use Rattle.sheet_geometry.specs.Begun.{BeginsWith}
 use Rattle.sheet_geometry.specs.StripCores.{new_from}
 use Rattle.sheet_geometry.proofs.BegunLemmas.{some_sheet}
@@ -51,7 +52,7 @@ use Rattle.sheet_engine.specs.Growth.{AddsArea}
 use Rattle.sheet_engine.specs.declared.counts.SheetCounts.{SheetCounts}
 
 -- new tints of a sheet, and those behind them
-new_more : (sheet : PageParts) (c first a b : ℕ) → new_from sheet c first a ++ new_from sheet c (first + a) b ≡ new_from sheet c first (a + b)
+new_more : (sheet : PageParts) (c first a b : ℕ) → new_from traps sheet c first a ++ new_from traps sheet c (first + a) b ≡ new_from traps sheet c first (a + b)
 new_more sheet c first a b =
     let f : ℕ → ℕ = λ i. new sheet (sample_at sheet (first + i)) c in
     ap (λ (t : List ℕ). list_below f a ++ t) (list_below-same (λ i. new sheet (sample_at sheet (first + a + i)) c) (λ i. f (a + i)) b (λ i l. ap (λ (n : ℕ). new sheet (sample_at sheet n) c) (let e : first + a + i ≡ first + (a + i) = omega arith in e)))
@@ -59,28 +60,28 @@ new_more sheet c first a b =
 
 -- what comes behind the first rows
 abbrev rest_of : PageParts → ℕ → ℕ → List ℕ
-rest_of sheet c rows = new_from sheet c (0 + rows * width sheet) ((height sheet - rows) * width sheet)
+rest_of sheet c rows = new_from traps sheet c (0 + rows * width sheet) ((height sheet - rows) * width sheet)
 
 rows_of_all : (sheet : PageParts) (c rows : ℕ) → rows ≤ height sheet → new_rows sheet c rows ++ rest_of sheet c rows ≡ new_tints sheet c
 rows_of_all sheet c rows l =
     new_more sheet c 0 (rows * width sheet) ((height sheet - rows) * width sheet)
-    ∙ ap (new_from sheet c 0) (let e : rows + (height sheet - rows) ≡ height sheet = omega (arith, l) in let m : (rows + (height sheet - rows)) * width sheet ≡ height sheet * width sheet = ap (λ (n : ℕ). n * width sheet) e in let t : rows * width sheet + (height sheet - rows) * width sheet ≡ height sheet * width sheet = omega (arith, m) in t)
+    ∙ ap (new_from traps sheet c 0) (let e : rows + (height sheet - rows) ≡ height sheet = omega (arith, l) in let m : (rows + (height sheet - rows)) * width sheet ≡ height sheet * width sheet = ap (λ (n : ℕ). n * width sheet) e in let t : rows * width sheet + (height sheet - rows) * width sheet ≡ height sheet * width sheet = omega (arith, m) in t)
     ∙ all_new sheet c
 
 -- n rows more
-rows_more : (sheet : PageParts) (c row n : ℕ) → new_rows sheet c row ++ new_from sheet c (row * width sheet) (n * width sheet) ≡ new_rows sheet c (row + n)
+rows_more : (sheet : PageParts) (c row n : ℕ) → new_rows sheet c row ++ new_from traps sheet c (row * width sheet) (n * width sheet) ≡ new_rows sheet c (row + n)
 rows_more sheet c row n =
     let w = width sheet in
     let from : row * w ≡ 0 + row * w = omega arith in
     let all : row * w + n * w ≡ (row + n) * w = omega arith in
-    ap (λ (k : ℕ). new_rows sheet c row ++ new_from sheet c k (n * w)) from
+    ap (λ (k : ℕ). new_rows sheet c row ++ new_from traps sheet c k (n * w)) from
     ∙ new_more sheet c 0 (row * w) (n * w)
-    ∙ ap (new_from sheet c 0) all
+    ∙ ap (new_from traps sheet c 0) all
 
 -- with the n rows after them
-rows_of_all_by : (sheet : PageParts) (c row n : ℕ) → row + n ≤ height sheet → new_rows sheet c row ++ (new_from sheet c (row * width sheet) (n * width sheet) ++ rest_of sheet c (row + n)) ≡ new_tints sheet c
+rows_of_all_by : (sheet : PageParts) (c row n : ℕ) → row + n ≤ height sheet → new_rows sheet c row ++ (new_from traps sheet c (row * width sheet) (n * width sheet) ++ rest_of sheet c (row + n)) ≡ new_tints sheet c
 rows_of_all_by sheet c row n l =
-    sym (append_assoc (new_rows sheet c row) (new_from sheet c (row * width sheet) (n * width sheet)) (rest_of sheet c (row + n)))
+    sym (append_assoc (new_rows sheet c row) (new_from traps sheet c (row * width sheet) (n * width sheet)) (rest_of sheet c (row + n)))
     ∙ ap (λ (t : List ℕ). t ++ rest_of sheet c (row + n)) (rows_more sheet c row n)
     ∙ rows_of_all sheet c (row + n) l
 
@@ -136,7 +137,7 @@ module _ (course : Course) (outline : PageParts) (plan : StripPlan) (begun : Lis
   ]
 
   -- some rows could not be written
-  broken : (sheet : PageParts) (k row n : ℕ) (racks : List RackState) → row + n ≤ height sheet → BreaksRows course.outputs plan.header (plates outline) k (λ c. new_rows sheet c row) (λ c. new_from sheet c (row * width sheet) (n * width sheet)) course.racks racks → PlateBreaks course outline plan.header k racks sheet
+  broken : (sheet : PageParts) (k row n : ℕ) (racks : List RackState) → row + n ≤ height sheet → BreaksRows course.outputs plan.header (plates outline) k (λ c. new_rows sheet c row) (λ c. new_from traps sheet c (row * width sheet) (n * width sheet)) course.racks racks → PlateBreaks course outline plan.header k racks sheet
   broken sheet k row n racks l breaks = record {
     known = breaks.known;
     failed = breaks.failed;
@@ -282,7 +283,7 @@ module _ (course : Course) (outline : PageParts) (plan : StripPlan) (begun : Lis
   }
 
   no_rows_yet : (sheet : PageParts) (c : ℕ) → [] ≡ new_rows sheet c 0
-  no_rows_yet sheet c = (let e : 0 ≡ 0 * width sheet = omega arith in ap (new_from sheet c 0) e)
+  no_rows_yet sheet c = (let e : 0 ≡ 0 * width sheet = omega arith in ap (new_from traps sheet c 0) e)
 
   not_created : (racks : List RackState) (k : ℕ) → BeginsImages course.outputs plan.header course.racks racks (Err (Write (Some k))) → IsUnwritten course outline plan.header trays racks k
   not_created racks k stops = record {

@@ -22,6 +22,7 @@ use Rattle.page_model.proofs.TintLemmas.{scaled_at_most}
 use Rattle.page_model.proofs.ZoneLemmas.{greatest_cover-is}
 use Rattle.page_model.specs.Limits.{most_maxval}
 use Rattle.page_model.specs.declared.parts.Plane.{Plane}
+use Rattle.sheet_geometry.specs.Areas.{traps}
 use Rattle.sheet_geometry.specs.StripCores.{new_from as new_from_sample}
 use Rattle.sheet_geometry.specs.Sheets.{IsSheet, IsSheetPlane}
 
@@ -76,7 +77,7 @@ module _ (sheet : PageParts) (valid : IsSheet sheet) where
       let some : 0 < width sheet = (let first = (plane_in 0 (let s = valid.parts.some_plates in omega arith)).some_width in omega arith) in
       record { x = mod-lt k some; y = (div-lt_iff_lt-mul some).1 (omega (arith, l)) }
 
-  pub row_fits : (c first count : ℕ) → c < plates sheet → first + count ≤ samples sheet → All (λ (t : ℕ). t ≤ maxval sheet) (new_from_sample sheet c first count)
+  pub row_fits : (c first count : ℕ) → c < plates sheet → first + count ≤ samples sheet → All (λ (t : ℕ). t ≤ maxval sheet) (new_from_sample traps sheet c first count)
   row_fits c first count l within = all_below (λ (t : ℕ). t ≤ maxval sheet) (λ i. new sheet (sample_at sheet (first + i)) c) count (λ i below. new_at_most (sample_at sheet (first + i)) c l (sample_in (first + i) (omega (arith, below, within))))
 
   tints_at_most : (c : ℕ) → c < plates sheet → All (λ (t : ℕ). t ≤ maxval sheet) (new_tints sheet c)

@@ -1,5 +1,6 @@
 -- A sheet that streams, from its first strip to its last.
 use Rattle.std.proofs.Common.{◌≡◌, ℕ, ◌+◌, ◌*◌, ◌<◌, ◌≤◌, List, [], Result, Ok, Err, inl, refl, sym, ap, ◌∙◌, subst, arith, length}
+use Rattle.sheet_geometry.specs.Areas.{traps}
 use Rattle.sheet_geometry.specs.StripCores.{new_from}
 use Rattle.outside.specs.Rack.{RackState}
 use Rattle.outside.specs.Tray.{TrayState}
@@ -37,7 +38,7 @@ holds_none inputs outline begun tall start now strip read = record { samples = �
 
 module _ (outline : PageParts) (plan : StripPlan) (begun : List OpenPlate) (row : Span) (can : CanStream outline plan) (headers : HaveHeader outline begun) (next : IsNextRow plan.down not_begun row) (old : StreamWorkspace) (at_hand : IsSomeStrip outline plan old.strip) (trays trays' : List TrayState) (new : PageParts) where
   no_rows : (sheet : PageParts) (c : ℕ) → [] ≡ new_rows sheet c 0
-  no_rows sheet c = ap (new_from sheet c 0) (no_tall (width sheet))
+  no_rows sheet c = ap (new_from traps sheet c 0) (no_tall (width sheet))
 
   -- no row is written and counted
   module _ (course : Course) (racks : List RackState) (starts : Starts course outline plan begun trays racks) where

@@ -1,5 +1,6 @@
 -- The course of a sheet that streams: what is read, written and counted of it by then.
 use Rattle.std.specs.Prelude.{◌≡◌, ℕ, ◌+◌, ◌*◌, ◌<◌, ◌≤◌, List, [], length, Result, Ok, Err, Some}
+use Rattle.sheet_geometry.specs.Areas.{traps}
 use Rattle.sheet_geometry.specs.Begun.{BeginsWith}
 use Rattle.sheet_geometry.specs.StripCores.{new_from}
 use Rattle.outside.specs.Rack.{RackState}
@@ -104,7 +105,7 @@ pub record StopsUnread (course : Course) (outline : PageParts) (plan : StripPlan
 abbrev pub RowBreaks : Course → PageParts → StripPlan → ℕ → List RackState → PageParts → Type 0
 RowBreaks course outline plan k racks sheet = (row n : ℕ) × (1 ≤ n) × (row + n ≤ height outline)
     × BreaksRows course.outputs plan.header (plates outline) k (λ c. new_rows sheet c row)
-    (λ c. new_from sheet c (row * width sheet) (n * width sheet)) course.racks racks
+    (λ c. new_from traps sheet c (row * width sheet) (n * width sheet)) course.racks racks
 
 -- The writing stops at plate k, of each sheet that begins with what was read.
 pub record StopsUnwritten (course : Course) (outline : PageParts) (plan : StripPlan)

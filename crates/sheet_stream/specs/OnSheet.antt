@@ -1,5 +1,6 @@
 -- A strip of a sheet that is put: what is so of the sheet then.
 use Rattle.std.specs.Prelude.{ℕ, ◌+◌, ◌*◌, ◌≤◌, List, Some, Ok, Err}
+use Rattle.sheet_geometry.specs.Areas.{traps}
 use Rattle.sheet_geometry.specs.StripCores.{inner_row, inner_ruler, new_from}
 use Rattle.outside.specs.Rack.{RackState}
 use Rattle.page_model.specs.declared.parts.PageParts.{PageParts}
@@ -11,7 +12,7 @@ use Rattle.sheet_stream.specs.Growing.{new_rows}
 use Rattle.sheet_stream.specs.Writing.{RowsAreWritten}
 use Rattle.sheet_geometry.specs.declared.spans.Ruler.{Ruler}
 use Rattle.sheet_geometry.specs.declared.spans.Span.{Span}
-use Rattle.sheet_geometry.specs.Plans.{AreRulers}
+use Rattle.sheet_geometry.specs.Plans.{AreRulersFor}
 use Rattle.sheet_geometry.specs.Sheets.{IsNearSheet, IsSheet}
 use Rattle.sheet_geometry.specs.Spans.{IsSpan}
 use Rattle.sheet_geometry.specs.Strips.{strip_parts}
@@ -30,7 +31,7 @@ strip_cut across down row =
 abbrev pub StripIsWritten : Type 0
 StripIsWritten = (outputs : List (List ℕ)) (header : Header) (count at : ℕ) (sheet : PageParts)
     (across down : Ruler) (row : Span) (start before after : List RackState) → IsSheet sheet
-    → IsNearSheet sheet → AreRulers sheet across down → IsSpan down at row
+    → IsNearSheet sheet → AreRulersFor traps sheet across down → IsSpan down at row
     → RowsAreWritten outputs header count sheet at start before
     → WritesCore count header (strip_parts sheet row) (strip_cut across down row) before after
     (Ok tt) → RowsAreWritten outputs header count sheet (at + row.core) start after
@@ -40,17 +41,17 @@ StripIsWritten = (outputs : List (List ℕ)) (header : Header) (count at : ℕ) 
 abbrev pub StripIsBroken : Type 0
 StripIsBroken = (outputs : List (List ℕ)) (header : Header) (count at k : ℕ) (sheet : PageParts)
     (across down : Ruler) (row : Span) (start before after : List RackState) → IsSheet sheet
-    → IsNearSheet sheet → AreRulers sheet across down → IsSpan down at row
+    → IsNearSheet sheet → AreRulersFor traps sheet across down → IsSpan down at row
     → RowsAreWritten outputs header count sheet at start before
     → WritesCore count header (strip_parts sheet row) (strip_cut across down row) before after
     (Err (Write (Some k))) → (line n : ℕ) × (1 ≤ n) × (line + n ≤ at + row.core)
     × BreaksRows outputs header count k (λ c. new_rows sheet c line)
-    (λ c. new_from sheet c (line * width sheet) (n * width sheet)) start after
+    (λ c. new_from traps sheet c (line * width sheet) (n * width sheet)) start after
 
 -- What is counted in a strip's core is counted in those rows of the sheet.
 abbrev pub StripIsCounted : Type 0
 StripIsCounted = (at : ℕ) (sheet : PageParts) (across down : Ruler) (row : Span)
     (before after : SheetCounts) → IsSheet sheet → IsNearSheet sheet
-    → AreRulers sheet across down → IsSpan down at row
+    → AreRulersFor traps sheet across down → IsSpan down at row
     → AddsArea (strip_parts sheet row) 0 row.skip (width (strip_parts sheet row)) row.core before
     after → AddsArea sheet 0 at (width sheet) row.core before after

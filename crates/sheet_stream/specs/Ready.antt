@@ -2,8 +2,9 @@
 use Rattle.std.specs.Prelude.{◌≡◌, ℕ, ◌*◌, ◌≤◌}
 use Rattle.page_model.specs.declared.parts.PageParts.{PageParts}
 use Rattle.page_model.specs.Page.{width}
+use Rattle.sheet_geometry.specs.Areas.{traps}
 use Rattle.sheet_geometry.specs.declared.spans.Span.{Span}
-use Rattle.sheet_geometry.specs.Plans.{AreRulers, AreSmall}
+use Rattle.sheet_geometry.specs.Plans.{AreRulersFor, AreSmall}
 use Rattle.sheet_geometry.specs.Sheets.{IsNearSheet, IsSheet}
 use Rattle.sheet_geometry.specs.Spans.{AreSpans, IsSpan}
 use Rattle.sheet_geometry.specs.Strips.{strip_parts}
@@ -23,7 +24,7 @@ pub record IsTrappable (plan : StripPlan) (row : Span) (strip : PageParts) (work
   pub at : ℕ
   pub valid : IsSheet sheet
   pub near : IsNearSheet sheet
-  pub rulers : AreRulers sheet plan.across plan.down
+  pub rulers : AreRulersFor traps sheet plan.across plan.down
   pub small : AreSmall sheet plan.across plan.down
   pub span : IsSpan plan.down at row
   pub same : strip ≡ strip_parts sheet row

@@ -6,6 +6,7 @@ use Rattle.page_model.specs.declared.parts.PageParts.{PageParts}
 use Rattle.page_model.specs.Page.{width}
 use Rattle.pgm_plates.specs.declared.header.Header.{Header}
 use Rattle.pgm_plates.specs.Rows.{HasWritten, spelled_so_far}
+use Rattle.sheet_geometry.specs.Areas.{traps}
 use Rattle.sheet_geometry.specs.StripCores.{new_from}
 use Rattle.plate_rows.specs.Images.{HaveWritten, WritesNext, part_at}
 use Rattle.sheet_stream.specs.Growing.{new_rows}
@@ -19,7 +20,7 @@ RowsAreWritten outputs header count sheet rows =
 -- a row of each plate, one plate after the other
 abbrev pub IsRowOf : PageParts → ℕ → ℕ → List ℕ → Type 0
 IsRowOf sheet count row line = (c : ℕ) → c < count
-    → part_at (width sheet) line c ≡ new_from sheet c (row * width sheet) (width sheet)
+    → part_at (width sheet) line c ≡ new_from traps sheet c (row * width sheet) (width sheet)
 
 -- With the next row of each plate they are those of one row more.
 abbrev pub RowIsWritten : Type 0

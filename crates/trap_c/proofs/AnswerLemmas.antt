@@ -19,6 +19,9 @@ use Rattle.trap_c.specs.Pages.{call_page}
 use Rattle.trap_c.specs.Planes.{KeepsGaps, tints_in}
 use Rattle.trap_c.specs.Requests.{Asked}
 use Rattle.trap_c.proofs.SheetLemmas.{core_is_new, made_window, on_sheet_is}
+use Rattle.page_model.specs.Columns.{halo}
+use Rattle.page_model.specs.Reach.{page_reach}
+use Rattle.sheet_geometry.specs.Areas.{traps}
 use Rattle.trap_c.proofs.WorkLemmas.{as_many_planes, trapped_lie}
 
 -- The planes are put in, and the report is told.
@@ -29,7 +32,7 @@ done_well most asked before after text text' len d works each gaps tells = recor
 }
 
 -- The cores are put in, and the core's part of the report is told.
-pub window_done : (most : ℕ) (asked : Asked) (place : Place) (before after text text' : List ℕ) (len : ℕ) (d : Done) → WorksWindow most asked.layout place before (call_window most asked place before) (Ok d) → HaveCores asked.layout (core_of place) d.planes before after (length d.planes) → Tells d.report text text' len → ((s : PageParts) (k : Cut) → IsCut s k → WindowLaw s k) → ((s : PageParts) (t : Tile) (x y rows : ℕ) → IsTile s t x y rows → TileLaw s t x y rows) → TrapsWindow most asked place before after text text' len 0
+pub window_done : (most : ℕ) (asked : Asked) (place : Place) (before after text text' : List ℕ) (len : ℕ) (d : Done) → WorksWindow most asked.layout place before (call_window most asked place before) (Ok d) → HaveCores asked.layout (core_of place) d.planes before after (length d.planes) → Tells d.report text text' len → ((s : PageParts) (k : Cut) → IsCut s k → WindowLaw s k) → ((s : PageParts) (t : Tile) (x y rows : ℕ) → IsTile (halo (page_reach s)) s t x y rows → TileLaw traps s t x y rows) → TrapsWindow most asked place before after text text' len 0
 window_done most asked place before after text text' len d works cores tells windows tiles =
     let page = works.0 in
     let worked = works.2 in

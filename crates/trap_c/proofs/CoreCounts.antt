@@ -10,7 +10,7 @@ use Rattle.page_model.specs.Conditions.{IsPage, IsPlane}
 use Rattle.page_model.specs.Page.{plates}
 use Rattle.page_model.specs.Planes.{no_plane, plane_at}
 use Rattle.sheet_geometry.specs.declared.cuts.Cut.{Cut}
-use Rattle.sheet_geometry.specs.Areas.{changes_in, changes_plate, edges_at, lies_in}
+use Rattle.sheet_geometry.specs.Areas.{changes_in, changes_plate, edges_at, lies_in, traps}
 use Rattle.sheet_engine.specs.declared.counts.SheetCounts.{SheetCounts}
 use Rattle.sheet_engine.specs.Growth.{AddsArea, Grows, HasWorkspace, HasWorkspaces, LiesOn}
 use Rattle.trap_c.specs.Cores.{AreNone, HasCounts, core_counts, sum_over}
@@ -50,15 +50,15 @@ made samples changed edges plates = record { zone_samples = samples; zone_change
 pub counted : (page : PageParts) (core : Cut) (before after : SheetCounts) (counts : Counts) → AreNone page before → AddsArea page core.left core.top core.width core.height before after → HasCounts after counts → counts ≡ core_counts page core
 counted page core before after counts none adds same =
     let a : counts.zone_samples ≡ list_below (λ z. sum_over core (lies_in z page)) (length page.zones) = same.zone_samples ∙ grown (length page.zones) (λ z. sum_over core (lies_in z page)) before.zone_samples.items after.zone_samples.items none.zone_samples adds.zone_samples in
-    let b : counts.zone_changed ≡ list_below (λ z. sum_over core (changes_in z page)) (length page.zones) = same.zone_changed ∙ grown (length page.zones) (λ z. sum_over core (changes_in z page)) before.zone_changed.items after.zone_changed.items none.zone_changed adds.zone_changed in
+    let b : counts.zone_changed ≡ list_below (λ z. sum_over core (changes_in traps z page)) (length page.zones) = same.zone_changed ∙ grown (length page.zones) (λ z. sum_over core (changes_in traps z page)) before.zone_changed.items after.zone_changed.items none.zone_changed adds.zone_changed in
     let c : counts.edges ≡ sum_over core (edges_at page) = same.edges ∙ adds.edges ∙ ap (λ (m : ℕ). m + sum_over core (edges_at page)) none.edges ∙ omega arith in
-    let d : counts.plate_changed ≡ list_below (λ c. sum_over core (changes_plate c page)) (plates page) = same.plate_changed ∙ grown (plates page) (λ c. sum_over core (changes_plate c page)) before.plate_changed.items after.plate_changed.items none.plate_changed adds.plate_changed in
+    let d : counts.plate_changed ≡ list_below (λ c. sum_over core (changes_plate traps c page)) (plates page) = same.plate_changed ∙ grown (plates page) (λ c. sum_over core (changes_plate traps c page)) before.plate_changed.items after.plate_changed.items none.plate_changed adds.plate_changed in
     λ i. made (a i) (b i) (c i) (d i)
 
 -- there is one count for each zone and each plate
 pub core_counts_fit : (page : PageParts) (core : Cut) (counts : Counts) → counts ≡ core_counts page core → AreCounts page counts
 core_counts_fit page core counts e = record {
   zone_samples = ap (λ (k : Counts). length k.zone_samples) e ∙ length-list_below (λ z. sum_over core (lies_in z page)) (length page.zones);
-  zone_changed = ap (λ (k : Counts). length k.zone_changed) e ∙ length-list_below (λ z. sum_over core (changes_in z page)) (length page.zones);
-  plate_changed = ap (λ (k : Counts). length k.plate_changed) e ∙ length-list_below (λ c. sum_over core (changes_plate c page)) (plates page);
+  zone_changed = ap (λ (k : Counts). length k.zone_changed) e ∙ length-list_below (λ z. sum_over core (changes_in traps z page)) (length page.zones);
+  plate_changed = ap (λ (k : Counts). length k.plate_changed) e ∙ length-list_below (λ c. sum_over core (changes_plate traps c page)) (plates page);
 }

@@ -24,7 +24,7 @@ use Rattle.page_model.specs.Tints.{new, new_tints, trapped_planes}
 use Rattle.ps_tokens.specs.declared.faults.JobFault.{JobFault}
 use Rattle.common_errors.specs.declared.common.CommonError.{CommonError}
 use Rattle.sheet_geometry.specs.declared.cuts.Cut.{Cut}
-use Rattle.sheet_geometry.specs.Areas.{changes_in, changes_plate, edges_at, lies_in}
+use Rattle.sheet_geometry.specs.Areas.{changes_in, changes_plate, edges_at, lies_in, traps}
 use Rattle.sheet_geometry.specs.Tiles.{IsCore, IsTile, Tile, TileLaw}
 use Rattle.sheet_geometry.specs.WindowLaw.{IsInside, WindowLaw}
 use Rattle.sheet_geometry.specs.Windows.{IsCut, IsExact, moved_zone, points_of, window}
@@ -204,7 +204,7 @@ module _ (asked : Asked) (place : Place) (before : List ℕ) (page sheet : PageP
   wide_enough : halo (page_reach sheet) ≤ job_halo job
   wide_enough = (let e : halo (page_reach sheet) ≡ halo (job_reach job) = ap halo reach_is in omega (arith, e))
 
-  is_core : IsCore sheet (cut_of asked.layout place) (core_of place)
+  is_core : IsCore (halo (page_reach sheet)) sheet (cut_of asked.layout place) (core_of place)
   is_core = record {
     across = placed_is.core_across;
     down = placed_is.core_down;
@@ -214,7 +214,7 @@ module _ (asked : Asked) (place : Place) (before : List ℕ) (page sheet : PageP
     bottom = λ less. (let h = of.tall in let a = suited.down.suffix (omega (arith, less, h)) in omega (arith, a, wide_enough));
   }
 
-  is_tile : IsTile sheet (tile_of asked.layout place) (place.left + place.core_left) (place.top + place.core_top) place.core_height
+  is_tile : IsTile (halo (page_reach sheet)) sheet (tile_of asked.layout place) (place.left + place.core_left) (place.top + place.core_top) place.core_height
   is_tile = record { cut = is_cut; core = is_core; left = refl; top = refl; tall = refl }
 
   is_inside : (y x : ℕ) → y < place.core_height → x < place.core_width → IsInside sheet (cut_of asked.layout place) (page_reach sheet) (record { x = place.core_left + x; y = place.core_top + y })
@@ -236,7 +236,7 @@ module _ (asked : Asked) (place : Place) (before : List ℕ) (page sheet : PageP
   pub on_sheet_is : (after : List ℕ)
       → ((c y x : ℕ) → c < plates page → y < place.core_height → x < place.core_width → get_or after (core_run asked.layout (core_of place) c y + x) 0 ≡ new page (record { x = place.core_left + x; y = place.core_top + y }) c)
       → ((s : PageParts) (k : Cut) → IsCut s k → WindowLaw s k)
-      → ((s : PageParts) (t : Tile) (x y rows : ℕ) → IsTile s t x y rows → TileLaw s t x y rows)
+      → ((s : PageParts) (t : Tile) (x y rows : ℕ) → IsTile (halo (page_reach s)) s t x y rows → TileLaw traps s t x y rows)
       → IsOnSheet asked.layout place page sheet after
   on_sheet_is after core windows tiles =
       let law = tiles sheet (tile_of asked.layout place) (place.left + place.core_left) (place.top + place.core_top) place.core_height is_tile in
@@ -249,9 +249,9 @@ module _ (asked : Asked) (place : Place) (before : List ℕ) (page sheet : PageP
             ∙ (ap (λ (p : PageParts). new p (record { x = place.core_left + x; y = place.core_top + y }) c) back
             ∙ (window.traps (record { x = place.core_left + x; y = place.core_top + y }) (is_inside y x ly lx)).tints c);
         zone_samples = λ z. ap (λ (p : PageParts). sum_over (core_of place) (lies_in z p)) back ∙ law.zone_samples z;
-        zone_changed = λ z. ap (λ (p : PageParts). sum_over (core_of place) (changes_in z p)) back ∙ law.zone_changed z;
-        plate_changed = λ c. ap (λ (p : PageParts). sum_over (core_of place) (changes_plate c p)) back ∙ law.plate_changed c;
-        edges = ap (λ (p : PageParts). sum_over (core_of place) (edges_at p)) back ∙ law.edges;
+        zone_changed = λ z. ap (λ (p : PageParts). sum_over (core_of place) (changes_in traps z p)) back ∙ law.zone_changed z;
+        plate_changed = λ c. ap (λ (p : PageParts). sum_over (core_of place) (changes_plate traps c p)) back ∙ law.plate_changed c;
+        edges = ap (λ (p : PageParts). sum_over (core_of place) (edges_at p)) back ∙ law.marks;
       }
 
 -- the core that was put in has the new tints of the page

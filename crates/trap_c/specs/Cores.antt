@@ -8,7 +8,7 @@ use Rattle.page_model.specs.declared.parts.Plane.{Plane}
 use Rattle.page_model.specs.Page.{plates}
 use Rattle.page_model.specs.Planes.{plane_at}
 use Rattle.sheet_geometry.specs.declared.cuts.Cut.{Cut}
-use Rattle.sheet_geometry.specs.Areas.{area_sum, changes_in, changes_plate, edges_at, lies_in}
+use Rattle.sheet_geometry.specs.Areas.{area_sum, changes_in, changes_plate, edges_at, lies_in, traps}
 use Rattle.sheet_engine.specs.declared.counts.SheetCounts.{SheetCounts}
 use Rattle.trap_c.specs.declared.layout.Layout.{Layout}
 
@@ -20,9 +20,9 @@ sum_over core f = area_sum f core.left core.top core.width core.height
 abbrev pub core_counts : PageParts → Cut → Counts
 core_counts page core = record {
   zone_samples = list_below (λ z. sum_over core (lies_in z page)) (length page.zones);
-  zone_changed = list_below (λ z. sum_over core (changes_in z page)) (length page.zones);
+  zone_changed = list_below (λ z. sum_over core (changes_in traps z page)) (length page.zones);
   edges = sum_over core (edges_at page);
-  plate_changed = list_below (λ c. sum_over core (changes_plate c page)) (plates page);
+  plate_changed = list_below (λ c. sum_over core (changes_plate traps c page)) (plates page);
 }
 
 -- counts of a page that are all 0

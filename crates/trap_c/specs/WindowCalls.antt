@@ -12,7 +12,9 @@ use Rattle.ps_tokens.specs.declared.faults.JobError.{JobError}
 use Rattle.ps_tokens.specs.declared.faults.JobError.TheVariants.{Fault, OutOfMemory}
 use Rattle.common_errors.specs.declared.common.CommonError.TheVariants.{Job as JobFaulty, Memory}
 use Rattle.common_errors.specs.Statuses.{done}
-use Rattle.sheet_geometry.specs.Areas.{area_sum, changes_in, changes_plate, edges_at, lies_in}
+use Rattle.page_model.specs.Columns.{halo}
+use Rattle.page_model.specs.Reach.{page_reach}
+use Rattle.sheet_geometry.specs.Areas.{area_sum, changes_in, changes_plate, edges_at, lies_in, traps}
 use Rattle.sheet_geometry.specs.Sheets.{IsSheet}
 use Rattle.sheet_geometry.specs.Tiles.{IsTile}
 use Rattle.sheet_geometry.specs.Windows.{shown_plane, window}
@@ -66,8 +68,8 @@ pub record IsSheetOf (job : Job) (asked : Asked) (place : Place) (samples : List
 pub record IsOnSheet (layout : Layout) (place : Place) (page sheet : PageParts) (after : List ℕ)
     : Type 0 where
   pub window_is : window sheet (cut_of layout place) ≡ page
-  pub tile : IsTile sheet (tile_of layout place) (place.left + place.core_left)
-      (place.top + place.core_top) place.core_height
+  pub tile : IsTile (halo (page_reach sheet)) sheet (tile_of layout place)
+      (place.left + place.core_left) (place.top + place.core_top) place.core_height
   pub tints : (c y x : ℕ) → c < plates sheet → y < place.core_height → x < place.core_width
       → slice_index after (core_run layout (core_of place) c y + x) ≡ new sheet (record {
         x = place.left + (place.core_left + x);
@@ -76,11 +78,11 @@ pub record IsOnSheet (layout : Layout) (place : Place) (page sheet : PageParts) 
   pub zone_samples : (z : ℕ) → sum_over (core_of place) (lies_in z page)
       ≡ area_sum (lies_in z sheet) (place.left + place.core_left) (place.top + place.core_top)
       place.core_width place.core_height
-  pub zone_changed : (z : ℕ) → sum_over (core_of place) (changes_in z page)
-      ≡ area_sum (changes_in z sheet) (place.left + place.core_left)
+  pub zone_changed : (z : ℕ) → sum_over (core_of place) (changes_in traps z page)
+      ≡ area_sum (changes_in traps z sheet) (place.left + place.core_left)
       (place.top + place.core_top) place.core_width place.core_height
-  pub plate_changed : (c : ℕ) → sum_over (core_of place) (changes_plate c page)
-      ≡ area_sum (changes_plate c sheet) (place.left + place.core_left)
+  pub plate_changed : (c : ℕ) → sum_over (core_of place) (changes_plate traps c page)
+      ≡ area_sum (changes_plate traps c sheet) (place.left + place.core_left)
       (place.top + place.core_top) place.core_width place.core_height
   pub edges : sum_over (core_of place) (edges_at page)
       ≡ area_sum (edges_at sheet) (place.left + place.core_left) (place.top + place.core_top)

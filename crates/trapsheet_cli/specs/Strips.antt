@@ -1,5 +1,6 @@
 -- Sheets of which no strips of one height can be cut.
 use Rattle.std.specs.Prelude.{◌⊎◌, ◌*◌, ◌<◌, IsSome, List}
+use Rattle.sheet_geometry.specs.Areas.{traps}
 use Rattle.sheet_geometry.specs.Outline.{outline_sheet}
 use Rattle.sheet_geometry.specs.Planned.{IsStepOf, even_workspace, workspace}
 use Rattle.sheet_geometry.specs.declared.plan.Rulers.{Rulers}
@@ -10,12 +11,12 @@ use Rattle.page_model.specs.Limits.{most_samples}
 use Rattle.page_model.specs.Page.{plates}
 use Rattle.sheet_geometry.specs.CommonErrors.{cut_fault}
 use Rattle.sheet_files.specs.Gathering.{IsMadeSheet}
-use Rattle.sheet_geometry.specs.Plans.{AreRulers}
+use Rattle.sheet_geometry.specs.Plans.{AreRulersFor}
 
 -- By rulers of this sheet, with its own halo and step, the least window of a strip has more samples
 -- than a page.
 pub record AreTooLarge (outline : PageParts) (rulers : Rulers) : Type 0 where
-  pub fit : AreRulers outline rulers.across rulers.down
+  pub fit : AreRulersFor traps outline rulers.across rulers.down
   pub step_across : IsStepOf outline rulers.across.step
   pub step_down : IsStepOf outline rulers.down.step
   pub large : most_samples < workspace rulers.across * even_workspace rulers.down * plates outline

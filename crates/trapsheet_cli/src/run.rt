@@ -1,6 +1,7 @@
 ghost use Rattle.std.specs.Prelude.{◌≡◌, ◌≤◌, length, map};
+ghost use Rattle.sheet_geometry.specs.Areas.{traps};
 ghost use Rattle.sheet_geometry.specs.Outline.{IsOutlineSheet, outline_sheet};
-ghost use Rattle.sheet_geometry.specs.Planned.{IsPlan};
+ghost use Rattle.sheet_geometry.specs.Planned.{IsPlanFor};
 ghost use Rattle.page_model.specs.declared.parts.PageParts.{PageParts};
 ghost use Rattle.page_model.specs.Page.{plates};
 ghost use Rattle.page_model.specs.Tints.{trapped_planes};
@@ -161,7 +162,7 @@ fn put_planned<H: Threads + Sync, T: Tray, R: Rack>(
     requires racks { most_plates ≤ length racks.old }
     requires valid { IsOutlineSheet planned.now.outline }
     requires blank { outline_sheet planned.now.outline ≡ planned.now.outline }
-    requires plan { IsPlan planned.now.outline budget.now planned.now.plan }
+    requires plan { IsPlanFor traps planned.now.outline budget.now planned.now.plan }
     requires inputs { length inputs.now ≡ plates planned.now.outline }
     requires count { length order.now.plates.now ≡ plates planned.now.outline }
     ensures { PutsPlanned (targets_of (order_in order.now)) (map (λ file. file.now) inputs.now)

@@ -5,6 +5,7 @@ use Rattle.std.proofs.Common.{◌≡◌, ℕ, ◌+◌, ◌++◌, ◌<◌, ◌≤
 use Rattle.std.specs.Prelude.{map, slice_index_or}
 use Rattle.std.proofs.lemmas.List.{length-map}
 use Rattle.page_model.specs.Page.{width}
+use Rattle.sheet_geometry.specs.Areas.{traps}
 use Rattle.sheet_geometry.specs.declared.spans.Span.{Span}
 use Rattle.sheet_geometry.specs.Plans.{tile_of}
 use Rattle.sheet_geometry.specs.Tiles.{core_row, strip_row}
@@ -89,7 +90,7 @@ loop-j-preserved c =
       done = ap (λ (n : ℕ). take n after) all
           ∙ put_prefix out run after left workspace c.put_run.ensures
           ∙ (λ i. c.loop-j.invariant.done i ++ c.row_of_core-run.ensures i)
-          ∙ sym (row_more c.args.c strip c.args.k (λ (column : Span). tile_of column row) columns j w.column many ∙ ap (λ (s : Span). strip_row c.args.c strip c.args.k (map (λ (column : Span). tile_of column row) (take j columns)) ++ core_row c.args.c strip c.args.k (tile_of s row)) column);
+          ∙ sym (row_more c.args.c strip c.args.k (λ (column : Span). tile_of column row) columns j w.column many ∙ ap (λ (s : Span). strip_row traps c.args.c strip c.args.k (map (λ (column : Span). tile_of column row) (take j columns)) ++ core_row traps c.args.c strip c.args.k (tile_of s row)) column);
     }
 
 pub row_of_core-run-requires-clause-row : goal.row_of_core-run-requires-clause-row

@@ -3,6 +3,7 @@
 use Rattle.std.proofs.Common.{◌≡◌, drop, length, take}
 use Rattle.std.specs.Prelude.{map}
 use Rattle.page_model.specs.Page.{width}
+use Rattle.sheet_geometry.specs.Areas.{traps}
 use Rattle.sheet_geometry.specs.Plans.{tile_of}
 use Rattle.sheet_geometry.specs.Spans.{AreSpans}
 use Rattle.sheet_geometry.specs.Tiles.{strip_row}
@@ -13,5 +14,5 @@ abbrev pub invariant-loop-j : goal.invariant-loop-j
 invariant-loop-j l = record {
   spans : AreSpans l.across l.left (drop l.j (columns_in l.workspace)) (width l.strip);
   long : length l.out ≡ width l.strip;
-  done : take l.left l.out ≡ strip_row l.c l.strip l.k (map (λ column. tile_of column l.row) (take l.j (columns_in l.workspace)));
+  done : take l.left l.out ≡ strip_row traps l.c l.strip l.k (map (λ column. tile_of column l.row) (take l.j (columns_in l.workspace)));
 }

@@ -9,7 +9,7 @@ use Rattle.page_model.specs.Counts.{plate_changes, sample_changes}
 use Rattle.page_model.specs.Page.{plates}
 use Rattle.page_model.specs.Zones.{zone_of}
 use Rattle.page_model.proofs.NumberSums.{sum_none, sum_same}
-use Rattle.sheet_geometry.specs.Areas.{changes_in, changes_plate, one_if}
+use Rattle.sheet_geometry.specs.Areas.{changes_in, changes_plate, one_if, traps}
 use Rattle.sheet_engine.specs.Growth.{Grows, row_sum}
 use Rattle.sheet_engine.proofs.tile.add_changes.Goals as goal
 
@@ -33,11 +33,11 @@ grown_none : (n : ℕ) (by : ℕ → ℕ) (counts : List ℕ) → ((z : ℕ) →
 grown_none n by counts none = record { long = refl; each = λ z l. omega (arith, none z l) }
 
 module _ (page : PageParts) (y left wide : ℕ) (kept : (k : ℕ) → k < wide → sample_changes page (record { x = left + k; y = y }) ≡ false) where
-  no_zone : (z : ℕ) → row_sum (changes_in z page) y left wide ≡ 0
-  no_zone z = sum_same (λ k. changes_in z page (record { x = left + k; y = y })) (λ k. 0) wide (λ k l. not_both (zone_of page (record { x = left + k; y = y }) == z) _ (kept k l)) ∙ sum_none wide
+  no_zone : (z : ℕ) → row_sum (changes_in traps z page) y left wide ≡ 0
+  no_zone z = sum_same (λ k. changes_in traps z page (record { x = left + k; y = y })) (λ k. 0) wide (λ k l. not_both (zone_of page (record { x = left + k; y = y }) == z) _ (kept k l)) ∙ sum_none wide
 
-  no_plate : (c : ℕ) → c < plates page → row_sum (changes_plate c page) y left wide ≡ 0
-  no_plate c lc = sum_same (λ k. changes_plate c page (record { x = left + k; y = y })) (λ k. 0) wide (λ k l. ap one_if (none_below (λ j. plate_changes page j (record { x = left + k; y = y })) (plates page) c (kept k l) lc)) ∙ sum_none wide
+  no_plate : (c : ℕ) → c < plates page → row_sum (changes_plate traps c page) y left wide ≡ 0
+  no_plate c lc = sum_same (λ k. changes_plate traps c page (record { x = left + k; y = y })) (λ k. 0) wide (λ k l. ap one_if (none_below (λ j. plate_changes page j (record { x = left + k; y = y })) (plates page) c (kept k l) lc)) ∙ sum_none wide
 
 pub returns-then-are_clear-clause-zone_changed : goal.returns-then-are_clear-clause-zone_changed
 returns-then-are_clear-clause-zone_changed c =

@@ -5,12 +5,12 @@ use Rattle.page_model.specs.declared.parts.At.{At}
 use Rattle.page_model.specs.Counts.{sample_changes}
 use Rattle.page_model.specs.Zones.{zone_of}
 use Rattle.page_tally.proofs.CountLemmas.{zone_known}
-use Rattle.sheet_geometry.specs.Areas.{changes_in}
+use Rattle.sheet_geometry.specs.Areas.{changes_in, traps}
 use Rattle.sheet_engine.proofs.RowSums.{fits, grows_if, grows_none, one_few}
 use Rattle.sheet_engine.proofs.tile_rows.add_each_changed.Goals as goal
 
 pub loop-k-init : goal.loop-k-init
-loop-k-init c = grows_none (length c.args.page.now.zones) c.args.y c.args.left (λ z. changes_in z c.args.page.now) c.args.counts.now
+loop-k-init c = grows_none (length c.args.page.now.zones) c.args.y c.args.left (λ z. changes_in traps z c.args.page.now) c.args.counts.now
 
 pub bounds-counts-zone : goal.bounds-counts-zone
 bounds-counts-zone c =

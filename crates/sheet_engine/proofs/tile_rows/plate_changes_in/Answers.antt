@@ -5,7 +5,7 @@ use Rattle.lists.specs.Words.{count_below}
 use Rattle.page_model.specs.Page.{width}
 use Rattle.page_model.proofs.NumberSums.{counted, sum_same}
 use Rattle.page_tally.proofs.CountLemmas.{changes_here}
-use Rattle.sheet_geometry.specs.Areas.{changes_plate, one_if}
+use Rattle.sheet_geometry.specs.Areas.{changes_plate, one_if, traps}
 use Rattle.sheet_engine.proofs.tile_rows.plate_changes_in.Goals as goal
 
 pub returns-clause-count : goal.returns-clause-count
@@ -18,7 +18,7 @@ returns-clause-count c =
     c.differences.ensures.count
     ∙ ap (count_below differs) c.tints_from-new.ensures.len
     ∙ counted differs c.args.wide
-    ∙ sum_same (λ k. one_if (differs k)) (λ k. changes_plate c.args.c page (record { x = left + k; y = c.args.y })) c.args.wide (λ k l.
+    ∙ sum_same (λ k. one_if (differs k)) (λ k. changes_plate traps c.args.c page (record { x = left + k; y = c.args.y })) c.args.wide (λ k l.
     let inside : left + k < width page = omega (arith, c.requires.wide, l) in
     ap one_if (ap (λ (n : ℕ). not (n == slice_index old k)) (c.tints_from-new.ensures.each k l)
     ∙ (ap (λ (n : ℕ). not (slice_index c.args.after.now (left + k) == n)) (c.tints_from-old.ensures.each k l)

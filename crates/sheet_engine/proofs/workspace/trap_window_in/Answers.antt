@@ -15,19 +15,21 @@ use Rattle.sheet_engine.proofs.WorkLemmas.{window_workspace}
 use Rattle.sheet_engine.specs.Growth.{HasWorkspaces}
 use Rattle.sheet_geometry.specs.Forms.{form_of}
 use Rattle.sheet_engine.proofs.workspace.trap_window_in.Goals as goal
+use Rattle.page_model.specs.Columns.{halo}
+use Rattle.page_model.specs.Reach.{page_reach}
 
 pub refill-page-requires-clause-cut : goal.refill-page-requires-clause-cut
 refill-page-requires-clause-cut c =
     let valid = c.width-valid.ensures.valid in
     let column = c.args.window.now.column in
-    let plan = plan_law c.args.sheet.now c.args.across.now c.args.down.now valid.ranges.parts.some_plates valid.ranges.parts.some_zones c.requires.rulers in
+    let plan = plan_law (halo (page_reach c.args.sheet.now)) c.args.sheet.now c.args.across.now c.args.down.now valid.ranges.parts.some_plates valid.ranges.parts.some_zones c.requires.rulers in
     subst (IsCut c.args.sheet.now) (sym c.cut_of-cut.ensures) (plan.tiles (column.from + column.skip) c.args.at column c.args.row.now c.requires.column c.requires.row).cut
 
 pub refill-page-requires-clause-small : goal.refill-page-requires-clause-small
 refill-page-requires-clause-small c =
     let valid = c.width-valid.ensures.valid in
     let column = c.args.window.now.column in
-    let plan = plan_law c.args.sheet.now c.args.across.now c.args.down.now valid.ranges.parts.some_plates valid.ranges.parts.some_zones c.requires.rulers in
+    let plan = plan_law (halo (page_reach c.args.sheet.now)) c.args.sheet.now c.args.across.now c.args.down.now valid.ranges.parts.some_plates valid.ranges.parts.some_zones c.requires.rulers in
     subst (IsSmall c.args.sheet.now) (sym c.cut_of-cut.ensures) (plan.small (column.from + column.skip) c.args.at column c.args.row.now c.requires.column c.requires.row c.requires.small)
 
 pub clear-requires-clause-zone_samples : goal.clear-requires-clause-zone_samples
@@ -45,7 +47,7 @@ trap_tile_in-requires-clause-shape c =
     let sheet = c.args.sheet.now in
     let column = c.args.window.now.column in
     let row = c.args.row.now in
-    let plan = plan_law sheet c.args.across.now c.args.down.now valid.ranges.parts.some_plates valid.ranges.parts.some_zones c.requires.rulers in
+    let plan = plan_law (halo (page_reach sheet)) sheet c.args.across.now c.args.down.now valid.ranges.parts.some_plates valid.ranges.parts.some_zones c.requires.rulers in
     let cut = (plan.tiles (column.from + column.skip) c.args.at column row c.requires.column c.requires.row).cut in
     let e = c.refill-page.ensures ∙ ap (window sheet) c.cut_of-cut.ensures in
     subst (λ (s : Shape). IsWorkspaceFor s c.args.window.now.workspace) (sym (shape_is sheet row column c.refill-page.result cut e)) c.requires.workspace.workspace
@@ -68,7 +70,7 @@ returns-in-Some-clause-trapped c =
     let column = c.args.window.now.column in
     let row = c.args.row.now in
     let page = c.refill-page.result in
-    let plan = plan_law sheet c.args.across.now c.args.down.now valid.ranges.parts.some_plates valid.ranges.parts.some_zones c.requires.rulers in
+    let plan = plan_law (halo (page_reach sheet)) sheet c.args.across.now c.args.down.now valid.ranges.parts.some_plates valid.ranges.parts.some_zones c.requires.rulers in
     let tile = plan.tiles (column.from + column.skip) c.args.at column row c.requires.column c.requires.row in
     let e = c.refill-page.ensures ∙ ap (window sheet) c.cut_of-cut.ensures in
     trapped_is sheet row c.args.at page c.clear.new.counts (record { alloc = c.args.window.now.alloc; column = column; page = Some page; workspace = c.trap_tile_in.new.workspace; counts = c.trap_tile_in.new.counts }) tile e c.clear.ensures c.trap_tile_in.ensures.planes c.trap_tile_in.ensures.counts

@@ -4,6 +4,7 @@ use Rattle.std.proofs.lemmas.Grind.{common_steps}
 use Rattle.std.proofs.Common.{◌≡◌, ℕ, ◌+◌, ◌<◌, List, sym, ◌∙◌, subst, arith}
 use Rattle.std.specs.Prelude.{map}
 use Rattle.page_model.specs.Page.{plates}
+use Rattle.sheet_geometry.specs.Areas.{traps}
 use Rattle.sheet_geometry.specs.declared.spans.Span.{Span}
 use Rattle.sheet_geometry.specs.Plans.{tile_of}
 use Rattle.sheet_geometry.specs.Tiles.{strip_rows}
@@ -12,12 +13,12 @@ use Rattle.sheet_files.proofs.Extending.{AreExtending, extending_next, extending
 use Rattle.sheet_files.proofs.whole.add_strip.Goals as goal
 
 pub loop-c-init : goal.loop-c-init
-loop-c-init c = record { line = c.requires.line; out = extending_none (plates c.args.sheet.now) (λ (p : ℕ). strip_rows p c.args.sheet.now (map (λ (column : Span). tile_of column c.args.row.now) (columns_in c.args.workspace.now)) c.args.row.now.core) c.args.out.now }
+loop-c-init c = record { line = c.requires.line; out = extending_none (plates c.args.sheet.now) (λ (p : ℕ). strip_rows traps p c.args.sheet.now (map (λ (column : Span). tile_of column c.args.row.now) (columns_in c.args.workspace.now)) c.args.row.now.core) c.args.out.now }
 
 pub loop-c-preserved : goal.loop-c-preserved
 loop-c-preserved c =
     let sheet = c.args.sheet.now in
-    let by : ℕ → List ℕ = λ (p : ℕ). strip_rows p sheet (map (λ (column : Span). tile_of column c.args.row.now) (columns_in c.args.workspace.now)) c.args.row.now.core in
+    let by : ℕ → List ℕ = λ (p : ℕ). strip_rows traps p sheet (map (λ (column : Span). tile_of column c.args.row.now) (columns_in c.args.workspace.now)) c.args.row.now.core in
     let inside : c.loop-c.c < plates sheet = (let a = c.loop-c-test.true in let b = c.plates-c-end.ensures.value in omega (arith, a, b)) in
     let more : c.as_slice.result.now ≡ by c.loop-c.c = c.as_slice.ensures.value ∙ c.in_ok-tints.ensures.tints in
     record {

@@ -3,6 +3,7 @@
 use Rattle.std.proofs.Common.{◌≡◌, length}
 use Rattle.std.specs.Prelude.{map}
 use Rattle.page_model.specs.Page.{plates, width}
+use Rattle.sheet_geometry.specs.Areas.{traps}
 use Rattle.sheet_geometry.specs.Plans.{tile_of}
 use Rattle.sheet_geometry.specs.Tiles.{strip_rows}
 use Rattle.sheet_engine.specs.Workspaces.{columns_in}
@@ -10,4 +11,4 @@ use Rattle.sheet_files.proofs.Extending.{AreExtending}
 use Rattle.sheet_files.proofs.whole.add_strip.Given as goal
 
 abbrev pub invariant-loop-c : goal.invariant-loop-c
-invariant-loop-c l = record { line : length l.line ≡ width l.sheet; out : AreExtending (plates l.sheet) l.c (λ c. strip_rows c l.sheet (map (λ column. tile_of column l.row) (columns_in l.workspace)) l.row.core) l.fn.out l.out }
+invariant-loop-c l = record { line : length l.line ≡ width l.sheet; out : AreExtending (plates l.sheet) l.c (λ c. strip_rows traps c l.sheet (map (λ column. tile_of column l.row) (columns_in l.workspace)) l.row.core) l.fn.out l.out }

@@ -3,8 +3,9 @@
 use Rattle.std.proofs.lemmas.Grind.{common_steps}
 use Rattle.std.proofs.Common.{arith, ◌∙◌, List, map, sym, subst}
 use Rattle.page_model.specs.Page.{width}
+use Rattle.sheet_geometry.specs.Areas.{traps}
 use Rattle.sheet_geometry.specs.declared.spans.Span.{Span}
-use Rattle.sheet_geometry.specs.Plans.{AreRulers}
+use Rattle.sheet_geometry.specs.Plans.{AreRulersFor}
 use Rattle.sheet_geometry.specs.Spans.{AreSpans}
 use Rattle.sheet_stream.specs.declared.core_rows.StripCut.{StripCut}
 use Rattle.sheet_stream.proofs.ReadyLemmas.{strip_rulers, strip_span}
@@ -16,7 +17,7 @@ use Rattle.sheet_stream.proofs.strip.trap_row.Goals as goal
 
 pub trap_strip_in-requires-clause-rulers : goal.trap_strip_in-requires-clause-rulers
 trap_strip_in-requires-clause-rulers g c lifetimes lives =
-    subst (λ (k : StripCut). AreRulers c.args.strip.now k.across k.down) (sym c.cut_of-cut.ensures)
+    subst (λ (k : StripCut). AreRulersFor traps c.args.strip.now k.across k.down) (sym c.cut_of-cut.ensures)
     (strip_rulers c.args.plan.now c.args.row.now c.args.strip.now c.args.windows.now c.args.counts.now c.requires)
 
 pub trap_strip_in-requires-clause-windows : goal.trap_strip_in-requires-clause-windows
