@@ -2,6 +2,7 @@
 """Reduced copies of plates, and pictures of them."""
 import io
 import os
+import time
 
 import pytest
 
@@ -10,7 +11,8 @@ image = pytest.importorskip("PIL.Image")
 
 from press.desk.colours import Inks, packed_light, png  # noqa: E402
 from press.desk.gap_marks import gaps_opened  # noqa: E402
-from press.desk.pyramid import Part, eight_bits, open_pyramid, plates_key, reduced_sides  # noqa: E402
+from press.desk import pyramid as pyramids  # noqa: E402
+from press.desk.pyramid import HEADER_BYTES, Part, eight_bits, open_pyramid, plates_key, reduced_sides  # noqa: E402
 
 pytestmark = [pytest.mark.plain, pytest.mark.quick]
 RED, BLUE = (255, 0, 0), (0, 0, 255)
@@ -41,15 +43,40 @@ def test_a_reduced_pixel_is_the_mean_of_its_square(tmp_path, maxval):
 
 
 def test_the_kept_file_is_used_again_until_the_plates_change(tmp_path):
-    """A second opening reads the file; another key makes it anew, and no other file stays beside it."""
+    """A second opening reads the file, once the disk has it; another key makes it anew, and no other file stays beside
+    it."""
     kept = tmp_path / "one.levels"
     first = open_pyramid(planes_of(300, 300), 255, kept, "old")
+    wait_for_header(kept)
     made = os.stat(kept).st_mtime_ns
     assert np.array_equal(open_pyramid(planes_of(300, 300), 255, kept, "old").levels[0][1], first.levels[0][1])
     assert os.stat(kept).st_mtime_ns == made
     white = [np.full((300, 300), 255, "u1")] * 2
     assert open_pyramid(white, 255, kept, "new").levels[0][0].min() == 255
     assert [one.name for one in tmp_path.iterdir()] == ["one.levels"]
+
+
+def wait_for_header(kept):
+    """Waits until a file of reduced copies says of which plates it is."""
+    end = time.monotonic() + 20
+    while not kept.read_bytes()[:1].strip(b"\0"):
+        assert time.monotonic() < end
+        time.sleep(0.01)
+
+
+def test_reduced_copies_that_the_disk_may_lack_are_made_again(tmp_path, monkeypatch):
+    """A file without its header is none, whatever else it has: the machine may have failed before all was written."""
+    kept = tmp_path / "one.levels"
+    monkeypatch.setattr(pyramids, "_confirm", lambda file, _: os.close(file))
+    open_pyramid(planes_of(300, 300), 255, kept, "key")
+    damaged = bytearray(kept.read_bytes())
+    damaged[HEADER_BYTES:] = bytes(len(damaged) - HEADER_BYTES)
+    kept.write_bytes(damaged)
+    monkeypatch.undo()
+    again = open_pyramid([np.full((300, 300), 255, "u1")] * 2, 255, kept, "key")
+    assert again.levels[0][0].min() == 255
+    wait_for_header(kept)
+    assert kept.read_bytes()[:1] == b"{"
 
 
 def test_the_key_changes_with_a_plate(tmp_path):

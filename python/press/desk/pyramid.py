@@ -2,12 +2,15 @@
 """Reduced copies of a page's plates, so that any zoom shows as fast as any other.
 
 Level k is reduced 2**k times. Levels 0 and 1 are read from the plates themselves; the others lie in one file
-beside them, which is made once and opened again as a memory map as long as the plates are the same.
+beside them, which is made once and opened again as a memory map as long as the plates are the same. Its header says of
+which plates it is; a thread writes that once the disk has the rest, and nobody waits for the disk.
 """
 from __future__ import annotations
 
 import json
+import logging
 import os
+import threading
 from collections.abc import Sequence
 from concurrent.futures import ThreadPoolExecutor
 from dataclasses import dataclass
@@ -25,6 +28,7 @@ Plane = NDArray[Any]
 Tints = NDArray[np.uint8]
 """Samples of eight bits; 0 is full ink."""
 
+LOG = logging.getLogger("press.desk")
 FIRST_LEVEL = 2
 SMALLEST_SIDE = 256
 BLOCK_ROWS = 2048
@@ -109,7 +113,8 @@ def open_pyramid(planes: Sequence[Plane], maxval: int, kept: Path, key: str) -> 
     sides = reduced_sides(*planes[0].shape)
     header = json.dumps({"key": key, "plates": len(planes), "levels": sides}).encode().ljust(HEADER_BYTES - 1) + b"\n"
     if not _is_current(kept, header):
-        _make(planes, maxval, kept, header, sides)
+        file = _make(planes, maxval, kept, sides)
+        threading.Thread(target=_confirm, args=(file, header), daemon=True, name="reduced-copies").start()
     return Pyramid(planes, maxval, _mapped(kept, len(planes), sides))
 
 
@@ -131,22 +136,36 @@ def _mapped(kept: Path, plates: int, sides: Sequence[tuple[int, int]]) -> list[l
     return levels
 
 
-def _make(planes: Sequence[Plane], maxval: int, kept: Path, header: bytes, sides: Sequence[tuple[int, int]]) -> None:
-    """Writes a pyramid's file, as a whole under its name or not at all."""
+def _make(planes: Sequence[Plane], maxval: int, kept: Path, sides: Sequence[tuple[int, int]]) -> int:
+    """Writes a pyramid's file, without a header, and gives it its name. Answers the open file."""
     kept.parent.mkdir(parents=True, exist_ok=True)
     made = kept.with_name(f".{kept.name}.{os.getpid()}")
     total = HEADER_BYTES + len(planes) * sum(height * width for height, width in sides)
+    file = os.open(made, os.O_RDWR | os.O_CREAT | os.O_TRUNC | os.O_CLOEXEC, 0o666)
     try:
-        with open(made, "wb") as file:
-            file.write(header)
-            file.truncate(total)
+        os.truncate(file, total)
         data = np.memmap(made, np.uint8, "r+")
         with ThreadPoolExecutor(min(4, len(planes))) as pool:
             list(pool.map(lambda k: _fill(planes[k], maxval, data, (k, len(planes)), sides), range(len(planes))))
-        data.flush()
         os.replace(made, kept)
-    finally:
+    except BaseException:
         made.unlink(missing_ok=True)
+        os.close(file)
+        raise
+    return file
+
+
+def _confirm(file: int, header: bytes) -> None:
+    """Writes the header of a pyramid's file once the disk has the rest, so that no file is taken for whole that a fault
+    of the machine cut short; then closes it."""
+    try:
+        os.fdatasync(file)
+        os.pwrite(file, header, 0)
+    except OSError as fault:
+        # It is made anew when the page is opened next.
+        LOG.warning("reduced copies: %s", fault.strerror)
+    finally:
+        os.close(file)
 
 
 def _fill(plane: Plane, maxval: int, data: Tints, which: tuple[int, int], sides: Sequence[tuple[int, int]]) -> None:

@@ -1,8 +1,9 @@
 # SPDX-License-Identifier: Apache-2.0
 """Traps whole pages in the background, after a change, by the engine of `press/trap`.
 
-A page starts a quarter of a second after its last change. The next change stops it, so that what is visible never
-waits for a page.
+A page starts at once if nobody saw its change yet. If the change was drawn at 1:1 with the answer, or is one of several
+that follow each other, the page starts a quarter of a second after the last one. The next change stops it, so that what
+is visible never waits for a page.
 """
 from __future__ import annotations
 
@@ -42,6 +43,7 @@ class PageRun:
         self.page, self.notify = page, notify
         self.wake = threading.Condition()
         self.wanted, self.is_open = 0, True
+        self.changed_at, self.waits = -QUIET_SECONDS, 0.0
         self.child: subprocess.Popen[bytes] | None = None
         self.thread = threading.Thread(target=self._work, daemon=True, name="page-run")
         self.thread.start()
@@ -49,10 +51,13 @@ class PageRun:
         if page.is_behind():
             self.changed()
 
-    def changed(self) -> None:
-        """Stops the run of an older version and asks for one of the newest."""
+    def changed(self, is_seen: bool = False) -> None:
+        """Stops the run of an older version and asks for one of the newest. `is_seen` says that the answer to the
+        change shows it."""
+        now = time.monotonic()
         with self.wake:
-            self.wanted += 1
+            self.waits = QUIET_SECONDS if is_seen or now - self.changed_at < QUIET_SECONDS else 0.0
+            self.wanted, self.changed_at = self.wanted + 1, now
             if self.child:
                 self.child.terminate()
             self.wake.notify()
@@ -76,7 +81,7 @@ class PageRun:
                     return
                 asked = self.wanted
                 # A later change restarts the wait.
-                if self.wake.wait(QUIET_SECONDS) and self.wanted != asked:
+                if self.waits and self.wake.wait(self.waits) and self.wanted != asked:
                     continue
                 done = asked
             self._run(asked)
@@ -121,6 +126,8 @@ class PageRun:
             warnings = engine.trap(page.folder, Settings(), self._started(asked)).warnings
         page.kept.record_trapped(text)
         seconds = time.monotonic() - start
+        # The system needs a while to give up the old plates: browsers are informed first.
+        old = page.after, page.live.planes
         if not page.take_trapped(version):
             return False
         if not page.lacks_strokes():
@@ -129,6 +136,7 @@ class PageRun:
             return False
         self.notify(kind="shown", version=version, seconds=seconds,
                     text=f"page trapped in {seconds:.1f} s; thin strokes are measured anew")
+        del old
         moved = self._find_strokes(asked, version)
         if moved:
             self.notify(kind="moved", version=page.version)

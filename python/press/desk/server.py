@@ -165,7 +165,7 @@ class Server:
                 change(views.page, said)
             except (KeyError, TypeError) as bad:
                 raise BadRequest(f"the request lacks {bad}") from bad
-            self.store.page_changed(key)
+            self.store.page_changed(key, is_seen=view is not None)
             state = JSONResponse(self.store.page_state(key))
             return with_pixels(bytes(state.body), views.view(view)) if view else state
         return await run_in_threadpool(work)

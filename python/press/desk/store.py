@@ -151,10 +151,10 @@ class Store:
     def _notify(self, key: str) -> Callable[..., None]:
         return lambda **event: self.events.tell(page=key, **event)
 
-    def page_changed(self, key: str) -> None:
-        """Has a page trapped anew, and informs all browsers."""
+    def page_changed(self, key: str, is_seen: bool = False) -> None:
+        """Has a page trapped anew, and informs all browsers. `is_seen` says that the answer to the change shows it."""
         opened = self._open(key)
-        opened.run.changed()
+        opened.run.changed(is_seen)
         self.events.tell(kind="changed", page=key, version=opened.page.version)
 
     def page_state(self, key: str) -> dict[str, Any]:
