@@ -16,6 +16,7 @@ import sys
 import threading
 import time
 from collections.abc import Callable, Iterator
+from concurrent.futures import ThreadPoolExecutor
 from pathlib import Path
 
 from press import engine, tools
@@ -44,7 +45,7 @@ class PageRun:
         self.wake = threading.Condition()
         self.wanted, self.is_open = 0, True
         self.changed_at, self.waits = -QUIET_SECONDS, 0.0
-        self.child: subprocess.Popen[bytes] | None = None
+        self.children: set[subprocess.Popen[bytes]] = set()
         self.thread = threading.Thread(target=self._work, daemon=True, name="page-run")
         self.thread.start()
         # The last server may have ended before it had trapped the page by its newest job.
@@ -58,18 +59,21 @@ class PageRun:
         with self.wake:
             self.waits = QUIET_SECONDS if is_seen or now - self.changed_at < QUIET_SECONDS else 0.0
             self.wanted, self.changed_at = self.wanted + 1, now
-            if self.child:
-                self.child.terminate()
+            self._stop_children()
             self.wake.notify()
 
     def close(self) -> None:
         """Stops what runs."""
         with self.wake:
             self.is_open = False
-            if self.child:
-                self.child.terminate()
+            self._stop_children()
             self.wake.notify()
         self.thread.join(5)
+
+    def _stop_children(self) -> None:
+        """Stops what runs for a page. Whoever calls it holds `wake`."""
+        for child in self.children:
+            child.terminate()
 
     def _work(self) -> None:
         done = 0
@@ -89,7 +93,7 @@ class PageRun:
     def _started(self, asked: int) -> engine.Started:
         def started(child: subprocess.Popen[bytes]) -> None:
             with self.wake:
-                self.child = child
+                self.children.add(child)
                 if asked != self.wanted or not self.is_open:
                     child.terminate()
         return started
@@ -110,42 +114,55 @@ class PageRun:
         finally:
             SLOTS.release()
             with self.wake:
-                self.child = None
+                self.children.clear()
             give_back()
 
     def _is_wanted(self, asked: int) -> bool:
         return self.is_open and asked == self.wanted
 
     def _trap(self, asked: int) -> bool:
-        """Traps the page, shows it, and looks for thin strokes if the change moves them: True if it has to be trapped
-        once more."""
-        page, start = self.page, time.monotonic()
+        """Traps the page, shows it, and meanwhile looks for thin strokes if the change moves them: True if it has to be
+        trapped once more."""
+        page = self.page
         with page.lock:
-            version, text = page.version, page.text
+            version, text, lacks_strokes = page.version, page.text, page.lacks_strokes()
+        with ThreadPoolExecutor(1, "thin-strokes") as beside:
+            found = beside.submit(self._find_strokes, asked) if lacks_strokes else None
+            try:
+                if not self._trap_and_show(asked, version, text, found is not None):
+                    return False
+            except BaseException:
+                with self.wake:
+                    self._stop_children()
+                raise
+            strokes = found.result() if found else None
+        if strokes is None or not self._is_wanted(asked):
+            return False
+        moved = page.take_strokes(version, strokes)
+        if moved:
+            self.notify(kind="moved", version=page.version)
+        elif self._is_wanted(asked):
+            self.notify(kind="shown", version=version, text="page done")
+        return moved
+
+    def _trap_and_show(self, asked: int, version: int, text: bytes, is_preview: bool) -> bool:
+        """Traps the page by its job, the text of a version, and shows it; False if there is a later version."""
+        page, start = self.page, time.monotonic()
         with self._progress(asked):
             warnings = engine.trap(page.folder, Settings(), self._started(asked)).warnings
         page.kept.record_trapped(text)
         seconds = time.monotonic() - start
-        # The system needs a while to give up the old plates: browsers are informed first.
+        # The system takes a while to release the old plates: browsers are informed first.
         old = page.after, page.live.planes
         if not page.take_trapped(version):
             return False
-        if not page.lacks_strokes():
-            said = "; ".join([f"page trapped in {seconds:.1f} s", *warnings])
-            self.notify(kind="shown", version=version, seconds=seconds, text=said)
-            return False
-        self.notify(kind="shown", version=version, seconds=seconds,
-                    text=f"page trapped in {seconds:.1f} s; thin strokes are measured anew")
+        said = [f"page trapped in {seconds:.1f} s", *warnings, *["thin strokes are measured anew"] * is_preview]
+        self.notify(kind="shown", version=version, text="; ".join(said))
         del old
-        moved = self._find_strokes(asked, version)
-        if moved:
-            self.notify(kind="moved", version=page.version)
-        elif self._is_wanted(asked):
-            self.notify(kind="shown", version=version, seconds=seconds, text="page done")
-        return moved
+        return True
 
-    def _find_strokes(self, asked: int, version: int) -> bool:
-        """Finds the places of thin strokes for the newest job; whether they move a zone."""
+    def _find_strokes(self, asked: int) -> Strokes | None:
+        """The places of thin strokes for the newest job; None if it has changed since."""
         page = self.page
         rule = page.rule()
         words = [sys.executable, "-B", "-m", "press.desk.find_places", page.folder.path]
@@ -157,11 +174,11 @@ class PageRun:
             except subprocess.TimeoutExpired as slow:
                 raise PressError(Status.PROGRAM, "looking for thin strokes takes too long") from slow
         if not self._is_wanted(asked):
-            return False
+            return None
         if child.returncode != 0:
             LOG.warning("%s: %s", page.folder.path, complained.decode("utf-8", "replace")[-2000:])
             raise PressError(Status.PROGRAM, "thin strokes could not be looked for")
-        return page.take_strokes(version, Strokes(rule, by_width(json.loads(printed))))
+        return Strokes(rule, by_width(json.loads(printed)))
 
     @contextlib.contextmanager
     def _progress(self, asked: int) -> Iterator[None]:

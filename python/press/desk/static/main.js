@@ -287,10 +287,13 @@ async function heard(event) {
     say(`Changed in another window: version ${event.version}`);
   }
   if (event.kind === 'shown' || event.kind === 'moved' || event.kind === 'said' || event.kind === 'reconnect') {
-    const page = await get(`/api/pages/${app.page.id}`);
+    // Tiles need the version alone: they come beside all else that is new.
+    if (event.kind === 'shown') app.page.shown = Math.max(app.page.shown, event.version);
+    const tiles = view.refresh(), page = await get(`/api/pages/${app.page.id}`);
+    if (app.page.id !== page.id) return;
     const isNewest = page.version >= app.page.version;
     Object.assign(app.page, isNewest ? page : { shown: page.shown, epoch: page.epoch });
-    await view.refresh();
+    await Promise.all([tiles, view.refresh()]);
     if (!view.needsLive()) view.hideLive();
     if (isNewest && !isTyping()) showPage();
     if (event.text) say(event.text);

@@ -108,7 +108,8 @@ export class PageView {
     const waits = Object.values(this.tiles._tiles).map((/** @type {any} */ { el, coords }) => {
       const next = this.address({ ...coords, z: Math.min(0, coords.z) });
       if (el.getAttribute('src') === next) return null;
-      return new Promise((done) => { el.onload = el.onerror = done; el.src = next; });
+      // A later picture may replace this one before it is there, and ends the wait for both.
+      return new Promise((done) => { for (const end of ['load', 'error']) el.addEventListener(end, done, { once: true }); el.src = next; });
     });
     return Promise.all(waits);
   }
