@@ -875,6 +875,32 @@ def test_a_large_page_shows_its_progress(folder, monkeypatch):
     assert event["kind"] == "progress" and event["share"] == 2 / len(page.inked) and "67%" in event["text"]
 
 
+def test_a_page_begins_at_once_if_nobody_saw_its_change(folder, monkeypatch):
+    """A change that is drawn with its answer waits until no other follows, and so does one that follows another."""
+    monkeypatch.setattr(runs, "QUIET_SECONDS", 3600.0)
+    heard = queue.Queue()
+    page = DeskPage(str(folder / "made" / "page-001"))
+    run = runs.PageRun(page, lambda **event: heard.put(event))
+    edits = page.state()["edits"]
+
+    def changed(width, is_seen):
+        page.change(page.version, {**edits, "settings": {"TrapWidth": width}})
+        run.changed(is_seen)
+    changed(30_000, False)
+    assert heard.get(timeout=SECONDS)["kind"] == "shown" and page.shown == 2
+    changed(31_000, False)
+    with pytest.raises(queue.Empty):
+        heard.get(timeout=0.5)
+    run.changed_at = -3600.0
+    changed(32_000, True)
+    with pytest.raises(queue.Empty):
+        heard.get(timeout=0.5)
+    run.changed_at = -3600.0
+    run.changed()
+    assert heard.get(timeout=SECONDS)["kind"] == "shown" and page.shown == page.version
+    run.close()
+
+
 @pytest.mark.skipif(not shutil.which("tsc"), reason="tsc is not installed (Debian: node-typescript)")
 def test_types_of_the_app():
     """tsc --checkJs finds nothing in the app's modules, whose types are in JSDoc."""

@@ -134,8 +134,8 @@ def find_library() -> None:
     try:
         trapping.library_version()
     except ImportError as fault:
-        raise PressError(Status.NO_TOOL, "the library libtrap.so.1 is not there (Debian: apt install libtrap1)"
-                         ) from fault
+        how = "make library builds it" if tools.is_program(tools.FINDER) else "Debian: apt install libtrap1"
+        raise PressError(Status.NO_TOOL, f"the library libtrap.so.1 is not there ({how})") from fault
 
 
 def serve(folder: str, where: Where, how: How, say: Callable[[str], None]) -> None:
