@@ -664,6 +664,20 @@ def test_findings_come_with_their_places(client, folder):
     assert abs(left + width / 2 - 20 * DPI / 25.4) < 2 and abs(HEIGHT - top - height / 2 - 10 * DPI / 25.4) < 2
 
 
+def test_a_finding_about_an_ink_leads_to_its_ink(client, folder):
+    """The box around all that the plate has, as far as the reduced copy shows it; none for a name within another."""
+    page = folder / "made" / "page-001"
+    (page / "warnings.txt").write_text("warning: knock-out: Magenta knocks out the colours below it\n"
+                                       "note: ink-library: Magentas has a density of 0.7\n")
+    first, second = client.get(f"/api/pages/{page_of(client)}").json()["findings"]
+    plate = PageFolder.read(str(page)).plates()["Magenta"] < 255
+    rows, columns = np.flatnonzero(plate.any(axis=1)), np.flatnonzero(plate.any(axis=0))
+    (left, top, width, height), = first["places"]
+    assert second["places"] == []
+    assert left <= columns[0] < left + 4 and left + width - 4 <= columns[-1] < left + width
+    assert top <= rows[0] < top + 4 and top + height - 4 <= rows[-1] < top + height
+
+
 def test_outputs_are_those_of_the_commands(client, folder, tmp_path):
     """TIFF files, screened plates, the proof; a trapped PDF only if its PDF is there."""
     key, page = page_of(client), folder / "made" / "page-001"

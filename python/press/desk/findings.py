@@ -9,6 +9,7 @@ from typing import Any
 
 from press import tools
 from press.folder import WARNINGS, PageFolder, read_layout, read_text
+from press.names import readable
 from press.rects import Rect
 
 AROUND = 4.0
@@ -17,11 +18,15 @@ MOST_PLACES = 20
 PLACE = re.compile(r"\bat (\d+), (\d+) mm\b")
 LINE = re.compile(r"(fault|warning|note): ([\w-]+): (.+)")
 LEVELS = ("fault", "warning", "note")
+ABOUT_INKS = ("ink-density", "ink-kind", "ink-library", "ink-twice", "knock-out", "process-name", "untrapped-inks")
+"""Findings that name inks, and no place."""
+Box = list[int]
 
 
-def findings_of(page: PageFolder, zones: Sequence[dict[str, Any]]) -> list[dict[str, Any]]:
+def findings_of(page: PageFolder, zones: Sequence[dict[str, Any]],
+                ink_boxes: Sequence[Box | None]) -> list[dict[str, Any]]:
     """The findings of a page, the gravest first: level, kind, text, and places as left, top, width and height in
-    pixels. `zones` are the job's zones as browsers get them."""
+    pixels. `zones` are the job's zones as browsers get them, `ink_boxes` where each plate has ink."""
     found = []
     for line in read_text(page.path, WARNINGS).splitlines():
         # A browser need not know where the folders lie.
@@ -29,11 +34,19 @@ def findings_of(page: PageFolder, zones: Sequence[dict[str, Any]]) -> list[dict[
         parts = LINE.fullmatch(text)
         if parts:
             level, kind, text = parts.groups()
-            found.append({"level": level, "kind": kind, "text": text, "places": places_of(page, kind, text, zones)})
+            places = places_of_inks(page, text, ink_boxes) if kind in ABOUT_INKS else []
+            found.append({"level": level, "kind": kind, "text": text,
+                          "places": places or places_of(page, kind, text, zones)})
     return sorted(found, key=lambda one: LEVELS.index(one["level"]))
 
 
-def places_of(page: PageFolder, kind: str, text: str, zones: Sequence[dict[str, Any]]) -> list[list[int]]:
+def places_of_inks(page: PageFolder, text: str, ink_boxes: Sequence[Box | None]) -> list[Box]:
+    """Where the inks are that a finding names."""
+    names = [re.compile(rf"(?<!\w){re.escape(readable(ink.colorant))}(?!\w)") for ink in page.inks]
+    return [box for name, box in zip(names, ink_boxes) if box and name.search(text)]
+
+
+def places_of(page: PageFolder, kind: str, text: str, zones: Sequence[dict[str, Any]]) -> list[Box]:
     """Where a finding is: the places that its text names, else those of what it is about."""
     named = [Rect(*(float(part) * 72 / 25.4 for part in (x - AROUND, y - AROUND, x + AROUND, y + AROUND)))
              for x, y in ((int(x), int(y)) for x, y in PLACE.findall(text))]
@@ -47,14 +60,14 @@ def places_of(page: PageFolder, kind: str, text: str, zones: Sequence[dict[str, 
     return []
 
 
-def box_of(page: PageFolder, rect: Rect) -> list[int]:
+def box_of(page: PageFolder, rect: Rect) -> Box:
     """A rectangle in points as left, top, width and height in pixels."""
     scale, height = page.source.resolution / 72, page.head.height
     width, rows = (max(1, round(side * scale)) for side in (rect.right - rect.left, rect.upper - rect.lower))
     return [round(rect.left * scale), round(height - rect.upper * scale), width, rows]
 
 
-def around(rings: Iterable[Sequence[Sequence[float]]]) -> list[list[int]]:
+def around(rings: Iterable[Sequence[Sequence[float]]]) -> list[Box]:
     """The box around all rings, in pixels; none if there is no ring."""
     points = [point for ring in rings for point in ring]
     if not points:

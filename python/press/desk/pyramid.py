@@ -96,6 +96,22 @@ class Pyramid:
         level = next((one for one in self.levels if one[0].size <= MOST_READ), self.levels[-1])
         return [1 - float(plane.mean()) / 255 for plane in level]
 
+    @cached_property
+    def ink_boxes(self) -> list[list[int] | None]:
+        """Where each plate has ink, by the copy that `coverage` reads: left, top, width and height in pixels."""
+        at = next((k for k, one in enumerate(self.levels) if one[0].size <= MOST_READ), len(self.levels) - 1)
+        scale = 1 << FIRST_LEVEL + at
+        found: list[list[int] | None] = []
+        for plane in self.levels[at]:
+            rows, columns = (np.flatnonzero(plane.min(axis=axis) < 255) for axis in (1, 0))
+            if not rows.size:
+                found.append(None)
+                continue
+            left, top = int(columns[0]) * scale, int(rows[0]) * scale
+            right, bottom = (int(columns[-1]) + 1) * scale, (int(rows[-1]) + 1) * scale
+            found.append([left, top, min(right, self.width) - left, min(bottom, self.height) - top])
+        return found
+
     def part(self, part: Part) -> list[Tints]:
         """A rectangle of all plates as eight bits, cut at the page's border."""
         scale = 1 << part.level if part.level < FIRST_LEVEL else 1

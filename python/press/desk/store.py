@@ -163,7 +163,8 @@ class Store:
         state = page.state()
         return {"id": key, "title": f"{place.title}, page {place.number}", **state,
                 **said.said_json(place.job, place.number, page), "downloads": titles(place), "presets": presets(),
-                "findings": findings_of(page.folder, state["jobZones"]), "siblings": len(self._siblings(key))}
+                "findings": findings_of(page.folder, state["jobZones"], page.before.ink_boxes),
+                "siblings": len(self._siblings(key))}
 
     def _siblings(self, key: str) -> list[str]:
         """The other pages of a page's job."""
