@@ -186,7 +186,7 @@ class Desk:
         for word in ("--headless=new", "--no-sandbox", "--disable-dev-shm-usage", "--hide-scrollbars", "--window-size=2200,1210"):
             options.add_argument(word)
         self.browser = webdriver.Chrome(options=options)
-        self.browser.set_script_timeout(300)
+        self.browser.set_script_timeout(1800)
 
     def start(self):
         """Starts the server."""
