@@ -4,7 +4,6 @@ processor is free for, the page's own process does."""
 from __future__ import annotations
 
 import contextlib
-import multiprocessing
 import os
 import signal
 from collections.abc import Callable, Iterator, Sequence
@@ -58,12 +57,12 @@ class Budget:
         os.close(self.given)
 
 
-def lost_line(code: int | None) -> str:
-    """Why a process ended without a word."""
+def lost_line(code: int | None, whose: str = "page") -> str:
+    """Why the process of a page, or of what `whose` names, ended without a word."""
     if code is not None and code < 0:
         short = ": was there not enough memory?" if -code == signal.SIGKILL else ""
-        return f"the page's process was ended by {signal.Signals(-code).name}{short}"
-    return f"the page's process ended with {code}"
+        return f"the {whose}'s process was ended by {signal.Signals(-code).name}{short}"
+    return f"the {whose}'s process ended with {code}"
 
 
 def do_beside(work: Callable[[], Any], end: Connection, parent: int) -> None:
@@ -85,13 +84,8 @@ class Later(Generic[T]):
 
     def start(self) -> None:
         """Starts a process for it, with the one processor that it was given of the budget."""
-        context = multiprocessing.get_context("fork")
-        self.end, theirs = context.Pipe(duplex=False)
-        process = context.Process(target=do_beside, args=(self.work, theirs, os.getpid()))
         with tools.signals_wait():
-            process.start()
-            self.process = process
-        theirs.close()
+            self.end, self.process = tools.forked(do_beside, self.work)
 
     @property
     def is_started(self) -> bool:

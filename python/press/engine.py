@@ -187,5 +187,4 @@ def write_json(page: PageFolder, report: Report, made: str, kept: keepaway.Done)
     if layout:
         text["layout"] = {key: value for key, value in layout.items() if key != "made_of"}
     with named(page.file(TRAPPED, JSON)), open(os.path.join(made, JSON), "w", encoding="utf-8") as file:
-        json.dump(text, file, indent=1)
-        file.write("\n")
+        file.write(json.dumps(text, indent=1) + "\n")

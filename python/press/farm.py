@@ -15,7 +15,7 @@ from .errors import PressError, Status
 from .farm_log import LOG, amend_log, logged, logged_done, missing, why_lost
 from .farm_slots import free_memory, page_line, slots
 from .files import LOCK, head_of, locked, scratch_folder, size_text, sweep, temporary_name
-from .findings import WARNING, refusal_for
+from .findings import WARNING, refuse
 from .folder import JobFolder
 from .inks import open_book
 from .job_record import changing_record
@@ -85,9 +85,7 @@ def look(farm: Farm, progress: FarmLines, scratch: str) -> Plan:
     for one in of_file:
         if one.level == WARNING:
             progress.warn(f"{farm.path}: {one.text}")
-    refusal = refusal_for(farm.path, of_file, farm.settings.strict)
-    if refusal:
-        raise refusal
+    refuse(farm.path, of_file, farm.settings.strict)
     return Plan(source, pages, page_memory(source, farm.settings, pages))
 
 

@@ -26,42 +26,32 @@ PROBE_BYTES = 1 << 18
 NO_ROOM = (errno.ENOSPC, errno.EDQUOT, errno.EFBIG, errno.EROFS, errno.EIO)
 
 
+@contextlib.contextmanager
+def refusing(path: str, status: Status = Status.INPUT) -> Iterator[None]:
+    """Makes refusals of the system's faults in the block, with this status, its own words and the path."""
+    try:
+        yield
+    except OSError as fault:
+        raise PressError(status, reason(fault), path) from fault
+
+
 # Reading
 
 def head_of(path: str) -> bytes:
     """The first bytes of a regular file. A folder, a pipe or a device is refused: reading it could wait for ever."""
-    try:
+    with refusing(path):
         mode = os.stat(path).st_mode
-        if stat.S_ISDIR(mode):
-            raise PressError(Status.INPUT, "Is a directory", path)
         if not stat.S_ISREG(mode):
-            raise PressError(Status.INPUT, "no regular file", path)
+            raise PressError(Status.INPUT, "Is a directory" if stat.S_ISDIR(mode) else "no regular file", path)
         with open(path, "rb") as file:
             return file.read(HEAD_BYTES)
-    except OSError as fault:
-        raise PressError(Status.INPUT, reason(fault), path) from fault
 
 
 def bytes_of(path: str) -> bytes:
     """The bytes of a regular file."""
     head_of(path)
-    try:
-        with open(path, "rb") as file:
-            return file.read()
-    except OSError as fault:
-        raise PressError(Status.INPUT, reason(fault), path) from fault
-
-
-def what_it_is(text: bytes) -> str:
-    """What a text is that is no UTF-8, and what is to be done."""
-    if is_utf16(text):
-        return "in UTF-16: save it as UTF-8"
-    for number, line in enumerate(text.split(b"\n"), 1):
-        try:
-            line.decode("utf-8")
-        except UnicodeDecodeError:
-            return f"line {number}: not UTF-8: save it as UTF-8"
-    return "not UTF-8"
+    with refusing(path), open(path, "rb") as file:
+        return file.read()
 
 
 def is_utf16(text: bytes) -> bool:
@@ -71,15 +61,14 @@ def is_utf16(text: bytes) -> bool:
 
 def table_lines(path: str) -> list[str]:
     """The lines of a table in UTF-8. A byte order mark is left aside."""
-    try:
-        with open(path, "rb") as file:
-            text = file.read()
-    except OSError as fault:
-        raise PressError(Status.INPUT, reason(fault), path) from fault
+    with refusing(path), open(path, "rb") as file:
+        text = file.read()
     try:
         return text.removeprefix(BYTE_ORDER_MARK).decode("utf-8").splitlines()
     except UnicodeDecodeError as fault:
-        raise PressError(Status.INPUT, what_it_is(text), path) from fault
+        line = fault.object.count(b"\n", 0, fault.start) + 1
+        what = "in UTF-16" if is_utf16(text) else f"line {line}: not UTF-8"
+        raise PressError(Status.INPUT, f"{what}: save it as UTF-8", path) from fault
 
 
 def beside(path: str, *ends: str) -> list[str]:
@@ -146,14 +135,12 @@ def sweep(folder: str) -> None:
 def whole_file(final: str) -> Iterator[str]:
     """A path beside `final` to write to. It takes the name `final` if the block ends well, and is removed otherwise."""
     parent = os.path.dirname(final) or "."
-    try:
-        if os.path.isdir(final):
-            raise PressError(Status.OUTPUT, "Is a directory", final)
+    if os.path.isdir(final):
+        raise PressError(Status.OUTPUT, "Is a directory", final)
+    with refusing(final, Status.OUTPUT):
         sweep(parent)
         handle, path = tempfile.mkstemp(prefix=temporary_name(), suffix=os.path.splitext(final)[1], dir=parent)
         os.close(handle)
-    except OSError as fault:
-        raise PressError(Status.OUTPUT, reason(fault), final) from fault
     try:
         with named(final):
             yield path
@@ -183,11 +170,9 @@ def scratch_folder() -> Iterator[str]:
 def folder_beside(final: str, inside: bool = False) -> Iterator[str]:
     """A new folder beside `final`, or inside it, that is removed when the block ends, unless it was renamed."""
     parent = final if inside else os.path.dirname(os.path.abspath(final))
-    try:
+    with refusing(final, Status.OUTPUT):
         sweep(parent)
         path = tempfile.mkdtemp(prefix=temporary_name(), dir=parent)
-    except OSError as fault:
-        raise PressError(Status.OUTPUT, reason(fault), final) from fault
     os.chmod(path, umasked(0o777))
     try:
         yield path

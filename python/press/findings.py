@@ -84,3 +84,9 @@ def refusal_for(path: str, findings: Iterable[Finding], strict: bool) -> PressEr
                 strictly = " (--strict)" if level == WARNING else ""
                 return PressError(one.status, one.text + strictly, place_of(path, one))
     return None
+
+
+def refuse(path: str, findings: Iterable[Finding], strict: bool) -> None:
+    """Raises the refusal that findings call for, if they do."""
+    if refusal := refusal_for(path, findings, strict):
+        raise refusal

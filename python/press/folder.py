@@ -11,7 +11,7 @@ from typing import Any, NamedTuple
 
 from . import plates
 from .errors import PressError, Status, reason
-from .files import named, need_folder
+from .files import need_folder, write_text
 from .inks import Ink
 from .job_record import FAILED, PAGES, Record, file_of, page_of, read_record, write_record
 from .names import from_table, table_name
@@ -46,8 +46,7 @@ def write_table(path: str, source: PageSource, inks: tuple[Ink, ...]) -> None:
         lines.append("\t".join(("colorant", ink.name, ink.density, ink.kind, " ".join(f"{part:g}" for part in ink.look),
                                 "ink" if ink.has_ink else "blank", table_name(ink.suffix), table_name(ink.colorant),
                                 ink.role)))
-    with named(os.path.join(path, TABLE)), open(os.path.join(path, TABLE), "w", encoding="utf-8") as file:
-        file.write(TABLE_HEAD + "\n".join(lines) + "\n")
+    write_text(os.path.join(path, TABLE), TABLE_HEAD + "\n".join(lines) + "\n")
 
 
 def read_table(folder: str) -> tuple[PageSource, tuple[Ink, ...]]:
@@ -57,16 +56,13 @@ def read_table(folder: str) -> tuple[PageSource, tuple[Ink, ...]]:
     try:
         with open(path, encoding="utf-8") as file:
             lines = [line.rstrip("\n").split("\t") for line in file if not line.startswith("#")]
+        heads = {line[0]: line[1] for line in lines if line[0] != "colorant"}
+        inks = tuple(ink_of(line) for line in lines if line[0] == "colorant")
+        source = PageSource(from_table(heads["pdf"]), int(heads["page"]), int(heads["resolution"]))
     except FileNotFoundError as fault:
         raise PressError(Status.NO_PLATES, NO_PLATES, folder) from fault
     except OSError as fault:
         raise PressError(Status.INPUT, reason(fault), path) from fault
-    except UnicodeDecodeError as fault:
-        raise PressError(Status.INPUT, "not a table of colorants", path) from fault
-    try:
-        heads = {line[0]: line[1] for line in lines if line[0] != "colorant"}
-        inks = tuple(ink_of(line) for line in lines if line[0] == "colorant")
-        source = PageSource(from_table(heads["pdf"]), int(heads["page"]), int(heads["resolution"]))
     except (IndexError, KeyError, ValueError) as fault:
         raise PressError(Status.INPUT, "not a table of colorants", path) from fault
     if not inks:

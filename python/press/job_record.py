@@ -13,7 +13,7 @@ from typing import Any
 
 from .command import version
 from .errors import PressError, Status, reason
-from .files import head_of, locked, write_text
+from .files import head_of, locked, refusing, write_text
 
 RECORD, SCHEMA = "job.json", 1
 FILE, OPTIONS, PAGES, DESK = "file", "options", "pages", "desk"
@@ -50,10 +50,8 @@ def digest_of(path: str) -> str:
 def input_file(path: str) -> InputFile:
     """What a record keeps of a file. Refuses one that cannot be read."""
     head_of(path)
-    try:
+    with refusing(path):
         return InputFile(os.path.basename(path), os.path.getsize(path), digest_of(path))
-    except OSError as fault:
-        raise PressError(Status.INPUT, reason(fault), path) from fault
 
 
 # The file

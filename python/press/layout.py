@@ -15,7 +15,7 @@ import numpy
 
 from . import images, tables
 from .errors import UsageError
-from .files import named
+from .files import write_text
 from .findings import NOTE, WARNING, Finding, remedy
 from .inks import Ink
 from .job import Statement, read_all
@@ -113,9 +113,7 @@ class Layout:
 
     def write(self, path: str) -> None:
         """Writes the layout beside the page's job."""
-        with named(path), open(path, "w", encoding="utf-8") as file:
-            json.dump(self.as_data(), file)
-            file.write("\n")
+        write_text(path, json.dumps(self.as_data()) + "\n")
 
 
 def lay_out(own: Sequence[Statement], info: PageInfo | None, trace: Trace | None, plates: Plates, inks: Sequence[Ink],

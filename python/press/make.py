@@ -9,7 +9,7 @@ from . import precedence, preflight, tiff, tools
 from .errors import PressError, Status, UsageError
 from .events import FindingMade, Observer, RunStarted, silent
 from .files import folder_beside, put_folder
-from .findings import NOTE, WARNING, Finding, refusal_for
+from .findings import NOTE, WARNING, Finding, refuse
 from .folder import TABLE, PageFolder, PageSource
 from .inks import InkBook, Separation, open_book
 from .job_record import input_file, part_of, write_record
@@ -36,9 +36,7 @@ def judge_place(folder: str, force: bool) -> None:
 def report(path: str, findings: Iterable[Finding], observer: Observer) -> None:
     """Refuses the first fault, or reports what was found."""
     found = list(findings)
-    refusal = refusal_for(path, found, False)
-    if refusal:
-        raise refusal
+    refuse(path, found, False)
     for one in found:
         observer(FindingMade(one))
 

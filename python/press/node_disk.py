@@ -8,12 +8,12 @@ from collections.abc import Sequence
 
 from . import identity, job_record
 from .errors import PressError, Status
-from .events import Event, Observer, PageDone, PageFailed, RunDone, RunStarted, Warned, silent
+from .events import Event, Observer, PageDone, PageFailed, RunDone, RunStarted, silent
 from .files import folder_beside, named
 from .folder import JobFolder
 from .page_work import line_of
 from .recorded import options_from, without_run_only
-from .runs import RunResult, page_locks, run
+from .runs import RunResult, finish, page_locks, run
 from .settings import Settings
 
 LOCAL, TASK = "PRESS_LOCAL", "SLURM_ARRAY_TASK_ID"
@@ -45,14 +45,7 @@ def run_on(local: str, path: str, out: str, settings: Settings, pages: Sequence[
         with page_locks(job, pages):
             identity.claim(job, given.file, counts[0], settings, pages)
             ends = {number: put(made, job, settings, end) for number, end in result.pages.items()}
-            line = given.changed_line()
-            if line:
-                done = [number for number, end in ends.items() if isinstance(end, PageDone)]
-                ends.update({end.page: end for end in identity.fail_mixed(job, done, line)})
-            try:
-                identity.gather(job, pages)
-            except (PressError, OSError) as fault:
-                observer(Warned(None, "press-all", f"the pages are not in the record: {line_of(fault, out)}"))
+            finish(given, job, ends, tell, pages)
     moved = RunResult(ends, result.findings)
     for event in (*ends.values(), RunDone(moved.failed)):
         observer(event)

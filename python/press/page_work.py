@@ -12,7 +12,7 @@ from .crew import Budget, Crew
 from .errors import PressError, Status, reason
 from .events import FindingMade, Observer, PageDone, PageFailed, StepDone, StepStarted, Warned
 from .files import disk_use, folder_beside, free_room, is_full
-from .findings import Finding, refusal_for
+from .findings import Finding, refuse
 from .folder import TIFF, TRAPPED, WARNINGS, JobFolder, PageFolder, layout_in, read_table
 from .inks import InkBook
 from .keepaway import BEGUN
@@ -79,10 +79,7 @@ class PageWork:
 
     def refuse(self) -> None:
         """Refuses the page where its findings call for that."""
-        own = [one for one in self.found if one.page == self.number]
-        refusal = refusal_for(self.source.path, own, self.settings.strict)
-        if refusal:
-            raise refusal
+        refuse(self.source.path, [one for one in self.found if one.page == self.number], self.settings.strict)
 
     def need_room(self) -> None:
         """Refuses a page whose plates alone take more of the disk than there is, before they are made."""

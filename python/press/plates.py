@@ -14,8 +14,8 @@ from typing import Any
 import numpy
 import numpy.typing
 
-from .errors import PressError, Status, reason
-from .files import named
+from .errors import PressError, Status
+from .files import named, refusing
 
 Array = numpy.typing.NDArray[Any]
 LONGEST_SIDE, MOST_SAMPLES = 16_384, 160_000_000
@@ -115,12 +115,9 @@ def fits_page(width: int, height: int, plates: int) -> bool:
 
 def head_of(path: str) -> Head:
     """The header of a PGM file whose length fits it."""
-    try:
-        with open(path, "rb") as file:
-            found = HEADER.match(file.read(HEAD_BYTES))
-            size = os.fstat(file.fileno()).st_size
-    except OSError as fault:
-        raise PressError(Status.INPUT, reason(fault), path) from fault
+    with refusing(path), open(path, "rb") as file:
+        found = HEADER.match(file.read(HEAD_BYTES))
+        size = os.fstat(file.fileno()).st_size
     if found is None:
         raise PressError(Status.PLATES, "no plate: it does not begin as a raw PGM file", path)
     width, height, maxval = (int(number) for number in found.groups())

@@ -3,7 +3,7 @@
 import math
 import re
 import subprocess
-from collections.abc import Callable, Sequence
+from collections.abc import Sequence
 
 from . import tools
 from .errors import PressError, Status
@@ -13,7 +13,7 @@ from .inks import Ink
 from .job import job_place
 
 AT = re.compile(r"job: .* at (\d+)")
-Started = Callable[["subprocess.Popen[bytes]"], None]
+Started = tools.Started
 
 
 def most_dpi(size: tuple[float, float], inked: int, longest: int, most: int | None) -> int:
@@ -44,11 +44,7 @@ def run_on(page: PageFolder, name: str, words: Sequence[str], inks: Sequence[Ink
     """Runs a program in a page's folder on the plates of some inks, and answers what it printed. `started` gets the
     child, to stop it."""
     path = tools.program(name)
-    with tools.running([path, *words], cwd=page.path, env=tools.environment(path)) as child:
-        if started:
-            started(child)
-        printed, complained = child.communicate()
-    done = subprocess.CompletedProcess([path, *words], child.returncode, printed, complained)
+    done = tools.run([path, *words], cwd=page.path, env=tools.environment(path), started=started)
     if done.returncode != 0:
         need_room(page.path, f"{name} wrote")
         raise refusal(page, name, inks, done)

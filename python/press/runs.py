@@ -15,7 +15,7 @@ from .errors import PressError, Status
 from .events import (Event, FindingMade, Observer, PageDone, PageFailed, RunDone, RunStarted, StepStarted, Warned,
                      silent)
 from .files import LOCK, folder_beside, locked, scratch_folder, sweep
-from .findings import Finding, refusal_for
+from .findings import Finding, refuse
 from .folder import JobFolder
 from .inks import InkBook, open_book
 from .page_work import PageWork, line_of, refusal_of
@@ -132,18 +132,14 @@ class Workers:
 
     def __init__(self, observer: Observer) -> None:
         self.observer = observer
-        self.context = multiprocessing.get_context("fork")
         self.active: dict[Connection, tuple[int, multiprocessing.process.BaseProcess]] = {}
         self.ends: dict[int, PageDone | PageFailed] = {}
 
     def start(self, todo: PageWork) -> None:
         """Starts a page."""
-        ours, theirs = self.context.Pipe(duplex=False)
-        process = self.context.Process(target=work, args=(todo, theirs, os.getpid()))
         with tools.signals_wait():
-            process.start()
+            ours, process = tools.forked(work, todo)
             self.active[ours] = todo.number, process
-        theirs.close()
 
     def hear(self) -> None:
         """Waits for an event of a page, and hands it on."""
@@ -206,9 +202,7 @@ def check_file(source: Source, settings: Settings, book: InkBook, pages: Sequenc
     found = preflight.check_file(source, settings, book, pages)
     for one in found:
         observer(FindingMade(one))
-    refusal = refusal_for(source.path, [one for one in found if one.page is None], settings.strict)
-    if refusal:
-        raise refusal
+    refuse(source.path, [one for one in found if one.page is None], settings.strict)
     return found
 
 
@@ -243,7 +237,8 @@ def run(path: str, out: str, settings: Settings = Settings(), pages: Sequence[in
             with contextlib.closing(budget_of(settings, len(numbers))) as budget:
                 todo = [PageWork(given, source, settings, book, job, list(found), number, silent, budget)
                         for number in numbers]
-                ends = finish(given, todo, do_pages(todo, settings.jobs, budget, tell), tell)
+                ends = do_pages(todo, settings.jobs, budget, tell)
+            finish(given, job, ends, tell)
             no_pdf = make_pdf(source, out, settings, observer) if settings.pdf and not is_one_of_many() else None
             if settings.proof and not is_one_of_many():
                 make_sheet(out, observer)
@@ -258,21 +253,20 @@ def budget_of(settings: Settings, pages: int) -> crew.Budget:
     return crew.Budget(share - min(settings.jobs, pages))
 
 
-def finish(given: identity.Input, todo: Sequence[PageWork], ends: dict[int, PageDone | PageFailed],
-           observer: Observer) -> dict[int, PageDone | PageFailed]:
-    """Records the pages of a run; those of a file that was replaced meanwhile fail. Answers how each ended."""
-    line = given.changed_line()
-    if line and todo:
+def finish(given: identity.Input, job: JobFolder, ends: dict[int, PageDone | PageFailed], observer: Observer,
+           pages: Sequence[int] = ()) -> None:
+    """Records the pages of a run, all that are in its folder or these alone. Those of a file that was replaced
+    meanwhile become failures in `ends`."""
+    if line := given.changed_line():
         done = [number for number, end in ends.items() if isinstance(end, PageDone)]
-        for failed in identity.fail_mixed(todo[0].job, done, line):
+        for failed in identity.fail_mixed(job, done, line):
             ends[failed.page] = failed
             observer(failed)
-    if todo and not is_held(todo[0].job.path):
+    if not is_held(job.path):
         try:
-            identity.gather(todo[0].job)
+            identity.gather(job, pages)
         except (PressError, OSError) as fault:
-            observer(Warned(None, "press-all", f"the pages are not in the record: {line_of(fault, todo[0].job.path)}"))
-    return ends
+            observer(Warned(None, "press-all", f"the pages are not in the record: {line_of(fault, job.path)}"))
 
 
 def make_pdf(source: Source, out: str, settings: Settings, observer: Observer) -> str | None:

@@ -16,8 +16,8 @@ from PIL import Image, UnidentifiedImageError
 
 from . import picture
 from .crew import ALONE, Crew
-from .errors import PressError, Status, UsageError, reason
-from .files import folder_beside, head_of, named
+from .errors import PressError, Status, UsageError
+from .files import folder_beside, head_of, named, refusing
 from .folder import PageFolder
 from .inks import Ink
 from .multi_tiff import multi_tags
@@ -187,12 +187,10 @@ def open_separation(path: str) -> Separation:
     """What the first page of a TIFF file says. Refuses a file that is no plate."""
     head_of(path)
     try:
-        with tifffile.TiffFile(path) as file:
+        with refusing(path), tifffile.TiffFile(path) as file:
             page = file.pages.first
             bits, polarity, channels = int(page.bitspersample), int(page.photometric), int(page.samplesperpixel)
             across, down = (whole_dpi(page.tags, name) for name in ("XResolution", "YResolution"))
-    except OSError as fault:
-        raise PressError(Status.INPUT, reason(fault), path) from fault
     except (tifffile.TiffFileError, ValueError, TypeError, IndexError, KeyError) as fault:
         raise PressError(Status.PLATES, "no TIFF file", path) from fault
     if channels != 1 or polarity not in (WHITE_IS_ZERO, BLACK_IS_ZERO) or bits not in (8, 16):

@@ -4,12 +4,15 @@ import contextlib
 import ctypes
 import functools
 import logging
+import multiprocessing
 import os
 import resource
 import shutil
 import signal
 import subprocess
 from collections.abc import Callable, Iterator, Mapping, Sequence
+from multiprocessing.connection import Connection
+from multiprocessing.process import BaseProcess
 from typing import Any
 
 from .errors import PressError, Status
@@ -23,6 +26,7 @@ PACKAGES = {"gs": "ghostscript", "mutool": "mupdf-tools", "parallel": "parallel"
 STOPS = (signal.SIGINT, signal.SIGTERM, signal.SIGHUP)
 SET_PARENT_DEATH_SIGNAL = 1
 STOP_AGAIN = 0.5
+Started = Callable[["subprocess.Popen[bytes]"], None]
 C_LIBRARY = ctypes.CDLL(None, use_errno=True)
 # The repository, or the folder that the package is installed in: it holds the folders press and python.
 TOP = os.path.dirname(os.path.dirname(os.path.dirname(os.path.realpath(__file__))))
@@ -70,11 +74,12 @@ def die_with(parent: int) -> None:
 
 
 @contextlib.contextmanager
-def signals_wait() -> Iterator[None]:
-    """Signals that stop a command wait until the block is left: Python drops one that arrives while it forks."""
+def signals_wait() -> Iterator[set[Any]]:
+    """Signals that stop a command wait until the block is left: Python drops one that arrives while it forks. Gives the
+    mask of before."""
     before = signal.pthread_sigmask(signal.SIG_BLOCK, STOPS)
     try:
-        yield
+        yield before
     finally:
         signal.pthread_sigmask(signal.SIG_SETMASK, before)
 
@@ -85,17 +90,23 @@ def begin_process(parent: int) -> None:
     signal.pthread_sigmask(signal.SIG_UNBLOCK, STOPS)
 
 
-def preparation(before: set[Any], memory: int | None) -> Callable[[], None]:
+def forked(work: Callable[..., None], *words: Any) -> tuple[Connection, BaseProcess]:
+    """Forks a process for work(*words, end, parent), while signals wait. What it sends by `end` comes from the
+    connection; `parent` is the number of this process."""
+    context = multiprocessing.get_context("fork")
+    ours, theirs = context.Pipe(duplex=False)
+    process = context.Process(target=work, args=(*words, theirs, os.getpid()))
+    process.start()
+    theirs.close()
+    return ours, process
+
+
+def prepare(parent: int, before: set[Any], memory: int | None) -> None:
     """What a child does between fork and exec: it ends with its parent, and has its limit of address space in bytes."""
-    parent = os.getpid()
-
-    def prepare() -> None:
-        die_with(parent)
-        if memory:
-            resource.setrlimit(resource.RLIMIT_AS, (memory, memory))
-        signal.pthread_sigmask(signal.SIG_SETMASK, before)
-
-    return prepare
+    die_with(parent)
+    if memory:
+        resource.setrlimit(resource.RLIMIT_AS, (memory, memory))
+    signal.pthread_sigmask(signal.SIG_SETMASK, before)
 
 
 @contextlib.contextmanager
@@ -103,24 +114,23 @@ def running(words: Sequence[str], *, memory: int | None = None, **how: Any) -> I
     """A tool that runs beside the block. It is stopped, and waited for, if the block is left before it has
     ended, and by the kernel if this process is killed. `memory` limits its address space, in bytes."""
     how = {"stdin": subprocess.DEVNULL, "stdout": subprocess.PIPE, "stderr": subprocess.PIPE, **how}
-    # A signal that arrives while the tool starts waits until the tool is known.
-    before = signal.pthread_sigmask(signal.SIG_BLOCK, STOPS)
     child: "subprocess.Popen[bytes] | None" = None
     try:
-        # pylint: disable-next=consider-using-with,subprocess-popen-preexec-fn
-        child = subprocess.Popen(words, preexec_fn=preparation(before, memory), **how)
-        signal.pthread_sigmask(signal.SIG_SETMASK, before)
+        with signals_wait() as before:
+            # pylint: disable-next=consider-using-with,subprocess-popen-preexec-fn
+            child = subprocess.Popen(words, preexec_fn=functools.partial(prepare, os.getpid(), before, memory), **how)
         yield child
     finally:
-        signal.pthread_sigmask(signal.SIG_SETMASK, before)
         if child is not None:
             stop(child)
 
 
-def run(words: Sequence[str], *, seconds: float | None = None, memory: int | None = None,
+def run(words: Sequence[str], *, seconds: float | None = None, started: Started | None = None,
         **how: Any) -> "subprocess.CompletedProcess[bytes]":
-    """Runs a tool and keeps what it prints. Raises TimeoutExpired after `seconds`."""
-    with running(words, memory=memory, **how) as child:
+    """Runs a tool and keeps what it prints. `started` gets its process. Raises TimeoutExpired after `seconds`."""
+    with running(words, **how) as child:
+        if started:
+            started(child)
         printed, complained = child.communicate(timeout=seconds)
         return subprocess.CompletedProcess(list(words), child.returncode, printed, complained)
 
@@ -142,8 +152,7 @@ def program(name: str, build: bool = False) -> str:
     """The path of a trapping program: in the folder TRAP_BIN if that is set; else in the repository, if it is
     built or released there; else beside the installed commands; else on the PATH. What is not built is built only
     if `build` asks for that, since it takes long."""
-    where = os.environ.get("TRAP_BIN")
-    if where:
+    if where := os.environ.get("TRAP_BIN"):
         if is_program(os.path.join(where, name)):
             return os.path.abspath(os.path.join(where, name))
         raise PressError(Status.NO_TOOL, f"the program {name} is not there: no {os.path.join(where, name)}")
@@ -152,14 +161,14 @@ def program(name: str, build: bool = False) -> str:
     for place in (found, os.path.join(TOP, "programs", name), shutil.which(name)):
         if place and is_program(place):
             return place
+    if not in_repository:
+        raise PressError(Status.NO_TOOL, f"the program {name} is not there")
     built = os.path.join(TOP, "crates", name, "out", name)
-    if in_repository and is_program(built):
+    if is_program(built):
         LOG.warning("the program %s is older than its sources (bin/%s builds it)", name, name)
         return built
-    if in_repository:
-        raise PressError(Status.NO_TOOL, f"the program {name} is not built yet: {TOP}/bin/{name} does it, "
-                         f"which takes some twenty minutes; or TRAP_BIN names the folder of one that is built")
-    raise PressError(Status.NO_TOOL, f"the program {name} is not there")
+    raise PressError(Status.NO_TOOL, f"the program {name} is not built yet: {TOP}/bin/{name} does it, which takes "
+                     f"some twenty minutes; or TRAP_BIN names the folder of one that is built")
 
 
 @functools.lru_cache(maxsize=None)
@@ -174,8 +183,7 @@ def built_program(name: str, build: bool) -> str:
 def library() -> str | None:
     """The path of libtrap.so.1: the file that TRAP_LIBRARY names; else the one beside the Python package that
     calls it; else the repository's, if it is built or released there. None leaves the search to the system."""
-    named = os.environ.get("TRAP_LIBRARY")
-    if named:
+    if named := os.environ.get("TRAP_LIBRARY"):
         return named
     beside, built, released = (os.path.join(TOP, *parts, "libtrap.so.1") for parts in (
         ("python", "trapping"), ("library", "out"), ("out", "release")))

@@ -8,7 +8,8 @@ from dataclasses import dataclass
 from typing import Any
 
 from ..command import Parser
-from ..errors import PressError, Status, UsageError, reason
+from ..errors import PressError, Status, UsageError
+from ..files import refusing
 from ..settings import MOST_JOBS, Settings, add_made_options, house_file, whole
 
 USUAL_SECONDS, USUAL_SETTLE, USUAL_WAIT = 600, 2, 30
@@ -99,10 +100,8 @@ def read_config(path: str) -> Config:
     """The hot folders of a configuration file. Refuses a key that is not known, a value that an option does not
     take, and two folders of one path."""
     try:
-        with open(path, "rb") as file:
+        with refusing(path), open(path, "rb") as file:
             text = tomllib.load(file)
-    except OSError as fault:
-        raise PressError(Status.INPUT, reason(fault), path) from fault
     except (tomllib.TOMLDecodeError, UnicodeDecodeError) as fault:
         raise PressError(Status.INPUT, f"no TOML: {fault}", path) from fault
     need_keys(text, ("log", "folder"), path)

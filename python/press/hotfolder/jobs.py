@@ -1,16 +1,16 @@
 # SPDX-License-Identifier: Apache-2.0
 """A claimed file at work: the whole way of a run in a process of its own, and the command that runs afterwards."""
 import contextlib
-import multiprocessing
 import os
 import re
-import signal
 import subprocess
 import time
 from collections.abc import Callable
 from multiprocessing.connection import Connection
+from multiprocessing.process import BaseProcess
 
 from .. import tools
+from ..crew import lost_line
 from ..errors import PressError, reason
 from ..events import Event, RunDone
 from ..files import write_text
@@ -73,17 +73,12 @@ class Job:
         self.attempt = claim.begin()
         self.why: str | None = self.fault
         self.connection: Connection | None = None
-        self.process: multiprocessing.process.BaseProcess | None = None
+        self.process: BaseProcess | None = None
 
     def start(self) -> None:
         """Starts the run."""
-        ours, theirs = multiprocessing.Pipe(duplex=False)
-        self.process = multiprocessing.get_context("fork").Process(
-            target=run_file, args=(self.claim, self.attempt, theirs, os.getpid()))
         with tools.signals_wait():
-            self.process.start()
-            self.connection = ours
-        theirs.close()
+            self.connection, self.process = tools.forked(run_file, self.claim, self.attempt)
 
     def hear(self) -> bool:
         """Hears what the run sends. Answers whether it has ended."""
@@ -111,7 +106,8 @@ class Job:
     def decide(self) -> None:
         """Decides on a file that is not to be made again."""
         out, told = os.path.join(self.attempt, OUT), os.path.join(self.attempt, TOLD)
-        why = self.why if self.why is not None else lost_line(self.process.exitcode if self.process else None)
+        code = self.process.exitcode if self.process else None
+        why = self.why if self.why is not None else f"press-all: {lost_line(code, 'file')}"
         made = os.path.join(self.attempt, FAILED) if why else out
         if why:
             os.mkdir(made)
@@ -129,14 +125,6 @@ class Job:
         if self.process is not None and self.process.pid is not None:
             self.process.terminate()
             self.process.join()
-
-
-def lost_line(code: int | None) -> str:
-    """Why a run ended without a word."""
-    if code is not None and code < 0:
-        short = ": was there not enough memory?" if -code == signal.SIGKILL else ""
-        return f"press-all: the file's process was ended by {signal.Signals(-code).name}{short}"
-    return f"press-all: the file's process ended with {code}"
 
 
 class Afterwards:

@@ -10,7 +10,7 @@ from typing import Any
 from .. import engine, tools
 from ..errors import PressError, Status, reason
 from ..events import Event
-from ..files import LOCK, is_full, locked, need_folder, sweep
+from ..files import LOCK, is_full, locked, need_folder, refusing, sweep
 from ..folder import read_text
 from .arrivals import Arrivals, is_written
 from .claims import CLAIMED, FILED, STATES, WHY, Claim, claim, claimed_name, claims
@@ -222,10 +222,8 @@ def prepare(hot: HotFolder, stack: contextlib.ExitStack) -> None:
         raise PressError(Status.INPUT, "No such directory", hot.path)
     need_folder(hot.path)
     for place in (hot.done, hot.failed, os.path.join(hot.path, CLAIMED)):
-        try:
+        with refusing(place, Status.OUTPUT):
             os.makedirs(place, exist_ok=True)
-        except OSError as fault:
-            raise PressError(Status.OUTPUT, reason(fault), place) from fault
         if os.stat(place).st_dev != os.stat(hot.path).st_dev:
             raise PressError(Status.OUTPUT, f"on another file system than {hot.path}: no file can be renamed into it",
                              place)
