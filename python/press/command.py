@@ -11,7 +11,7 @@ import textwrap
 from collections.abc import Callable, Sequence
 from typing import Any, NoReturn
 
-from .errors import STATUSES, PressError, Status, UsageError, reason
+from .errors import STATUSES, PressError, Status, UsageError, refusal_of
 from .names import clean
 from .start import command_name
 from .tools import STOPS, TOP
@@ -152,16 +152,13 @@ def run_words(main: Callable[[Sequence[str]], int]) -> NoReturn:
     prepare()
     try:
         status = main(sys.argv[1:])
-    except UsageError as refusal:
-        say(f"{refusal} (see {command_name()} --help)")
+    except UsageError as fault:
+        say(f"{fault} (see {command_name()} --help)")
         status = Status.USAGE
-    except PressError as refusal:
-        say(str(refusal))
-        status = refusal.status
     except BrokenPipeError:
         status = Status.OUTPUT
-    except OSError as fault:
-        named = os.fsdecode(fault.filename) if isinstance(fault.filename, (str, bytes)) else "write"
-        say(f"{named}: {reason(fault)}")
-        status = Status.OUTPUT
+    except (PressError, OSError) as fault:
+        refusal = refusal_of(fault, "write")
+        say(str(refusal))
+        status = refusal.status
     sys.exit(status)

@@ -3,6 +3,7 @@
 for each subject; each finding names the place in millimetres from the lower left corner of the page as it is drawn."""
 from __future__ import annotations
 
+import contextlib
 import functools
 import math
 import re
@@ -282,8 +283,7 @@ def white_type_findings(trace: Trace, plates: Plates, inks: Sequence[Ink], info:
         if not paint.size or paint.size >= SMALL_TYPE or is_paper(paint):
             continue
         box = on_page(paint.box, info, settings)
-        found = [readable(ink.colorant) for ink in whites if has_shape_of_colour(plates, inks, ink, box)]
-        if found:
+        if found := [readable(ink.colorant) for ink in whites if has_shape_of_colour(plates, inks, ink, box)]:
             x, y = (box.left + box.right) / 2 * MILLIMETRES, (box.lower + box.upper) / 2 * MILLIMETRES
             yield Finding("type-on-white", WARNING, page, f"type of {paint.size:.1f} pt at {x:.0f}, {y:.0f} mm is over "
                           f"{' + '.join(found)} of the same shape: out of register white shows next to it, and the "
@@ -327,15 +327,12 @@ def part_of(plates: Plates, box: Rect) -> tuple[slice, slice]:
 
 def file_findings(path: str, settings: Settings) -> Iterator[Finding]:
     """What a PDF says of itself: encryption, traps, layers and output intents."""
-    try:
-        with pikepdf.open(path) as pdf:
-            yield from trapped_findings(pdf)
-            if pdf.is_encrypted and not (pdf.allow.print_highres and pdf.allow.print_lowres):
-                yield Finding("encrypted", WARNING, None, "printing is forbidden by the file's encryption")
-            yield from layer_findings(pdf)
-            yield from intent_findings(pdf, settings)
-    except (*UNREAD, AttributeError, TypeError, ValueError, KeyError):
-        return
+    with contextlib.suppress(*UNREAD, AttributeError, TypeError, ValueError, KeyError), pikepdf.open(path) as pdf:
+        yield from trapped_findings(pdf)
+        if pdf.is_encrypted and not (pdf.allow.print_highres and pdf.allow.print_lowres):
+            yield Finding("encrypted", WARNING, None, "printing is forbidden by the file's encryption")
+        yield from layer_findings(pdf)
+        yield from intent_findings(pdf, settings)
 
 
 def trapped_findings(pdf: Any) -> Iterator[Finding]:

@@ -6,6 +6,7 @@ import json
 import os
 from collections.abc import Sequence
 from dataclasses import dataclass
+from pathlib import Path
 from typing import Any
 
 from . import keepaway, programs, tools
@@ -62,8 +63,7 @@ class Trapped:
 
 def read_report(folder: str) -> Report:
     """The report of a page that was trapped."""
-    with open(os.path.join(folder, TRAPPED, REPORT), encoding="utf-8") as file:
-        return Report.of(file.read())
+    return Report.of(Path(folder, TRAPPED, REPORT).read_text("utf-8"))
 
 
 # A job before any plate
@@ -73,10 +73,8 @@ def judge(job: Job, names: Sequence[str]) -> None:
     is run over plates of one sample."""
     path = tools.program(PROGRAM)
     with scratch_folder() as folder:
-        with open(os.path.join(folder, "job"), "wb") as file:
-            file.write(job.text)
-        with open(os.path.join(folder, "plate"), "wb") as file:
-            file.write(b"P5\n1 1\n255\n\xff")
+        Path(folder, "job").write_bytes(job.text)
+        Path(folder, "plate").write_bytes(b"P5\n1 1\n255\n\xff")
         plates = [f"{name}:plate:out{at}" for at, name in enumerate(names)]
         done = tools.run([path, "1", "job", "report", *plates], cwd=folder)
     if done.returncode == 0:
@@ -144,8 +142,7 @@ def trap(page: PageFolder, settings: Settings, started: Started | None = None) -
         run_on(page, name, words_of(name, page, out, settings), page.inked, started)
         keeping.under_colours()
         warnings = check(page, out, settings.check) if settings.check is not None else ()
-        with open(os.path.join(made, REPORT), encoding="utf-8") as file:
-            report = Report.of(file.read())
+        report = Report.of(Path(made, REPORT).read_text("utf-8"))
         write_json(page, report, made, keeping.done)
         for ink in page.inks:
             if ink not in page.inked:
@@ -183,8 +180,7 @@ def write_json(page: PageFolder, report: Report, made: str, kept: keepaway.Done)
     with contextlib.suppress(FileNotFoundError), open(os.path.join(made, CHECK), encoding="utf-8") as file:
         counted = dict(line.split() for line in file if len(line.split()) == 2)
         text["check"] = {key: int(counted[key]) for key in ("radius", "before", "after") if key in counted}
-    layout = read_layout(page)
-    if layout:
+    if layout := read_layout(page):
         text["layout"] = {key: value for key, value in layout.items() if key != "made_of"}
     with named(page.file(TRAPPED, JSON)), open(os.path.join(made, JSON), "w", encoding="utf-8") as file:
         file.write(json.dumps(text, indent=1) + "\n")

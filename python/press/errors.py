@@ -1,6 +1,7 @@
 # SPDX-License-Identifier: Apache-2.0
 """Refusals: one exception with a status, a message and a place."""
 import enum
+import os
 
 # Made of docs/STATUSES.md by tools/pages.
 STATUSES = """Status:
@@ -61,3 +62,13 @@ class UsageError(PressError):
 def reason(fault: Exception) -> str:
     """The system's own words for a fault."""
     return getattr(fault, "strerror", None) or str(fault)
+
+
+def refusal_of(fault: PressError | OSError, place: str) -> PressError:
+    """A refusal as it is; or that for a fault of the system, with the file that it names, or else a place."""
+    if isinstance(fault, PressError):
+        return fault
+    named = os.fsdecode(fault.filename) if isinstance(fault.filename, (str, bytes)) else place
+    refusal = PressError(Status.OUTPUT, reason(fault), named)
+    refusal.__cause__ = fault
+    return refusal

@@ -57,14 +57,10 @@ class Farm:
 
 def page_memory(source: Source, settings: Settings, pages: Sequence[int]) -> int:
     """The bytes of memory that the largest page takes, each of its inks having a plate."""
-    most = 0
-    for page in pages:
-        info = source.page(page)
-        if info:
-            width, height = info.samples(settings.box, settings.dpi)
-            plates = min(MOST_PLATES, len(PROCESS) + len(info.spots))
-            most = max(most, preflight.trapping_memory(settings, width, height, plates))
-    return most + OWN_BYTES
+    needs = [preflight.trapping_memory(settings, *info.samples(settings.box, settings.dpi),
+                                       min(MOST_PLATES, len(PROCESS) + len(info.spots)))
+             for info in map(source.page, pages) if info]
+    return max(needs, default=0) + OWN_BYTES
 
 
 @dataclass(frozen=True)

@@ -67,7 +67,6 @@ def probe(logins: Sequence[str], script: str, variables: Sequence[str],
             children = [(login, stack.enter_context(probing(login, script, variables, environment)))
                         for login in logins[first:first + AT_ONCE]]
             for login, child in children:
-                why = answer(child, end)
-                if why:
+                if why := answer(child, end):
                     faults[login] = why
     return faults

@@ -40,8 +40,7 @@ class FarmJson(FarmLines):
 
     def page(self, line: str) -> None:
         """An event of a page, or the line of one that failed without an event."""
-        failed = FAILED.match(line)
-        if failed:
+        if failed := FAILED.match(line):
             self.fail(int(failed[1]))
             self.tell("page-failed", page=int(failed[1]), status=None, why=failed[2])
             return

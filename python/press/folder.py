@@ -206,8 +206,7 @@ class JobFolder:
             with open(os.path.join(made, WHY), "w", encoding="utf-8", errors="surrogateescape") as file:
                 file.write(why + "\n")
         with contextlib.suppress(OSError, PressError):
-            found = record_or_none(made) or part
-            if found:
+            if found := record_or_none(made) or part:
                 pages = {key: {**one, "state": FAILED, "why": why} for key, one in found[PAGES].items()}
                 write_record(made, {**found, PAGES: pages})
         with contextlib.suppress(OSError):

@@ -157,8 +157,7 @@ def gather(job: JobFolder, pages: Sequence[int] = ()) -> None:
         for number, folder in folders_of(job, pages).items():
             found.pop(str(number), None)
             with contextlib.suppress(PressError):
-                part = page_of(read_record(folder), number)
-                if part:
+                if part := page_of(read_record(folder), number):
                     found[str(number)] = part
         record[PAGES] = sorted_pages(found)
 

@@ -9,7 +9,7 @@ import re
 import shlex
 import unicodedata
 from collections.abc import Callable, Container, Iterable, Iterator, Mapping, Sequence
-from dataclasses import dataclass, field
+from dataclasses import dataclass
 from typing import TypeVar
 
 from . import tables
@@ -284,7 +284,6 @@ class InkBook:
 
     settings: Settings
     table: str | None
-    house: dict[bytes, tuple[int, Known]] = field(default_factory=dict)
 
     def __post_init__(self) -> None:
         self.of_table = inks_of_file(self.table) if self.table else {}

@@ -2,6 +2,7 @@
 """The job language: the job of a page is written here, and read for the keys that it names and the zones that
 it makes. What a job means is for the program to say; here nothing is refused that it takes.
 """
+import contextlib
 import difflib
 import re
 from collections.abc import Iterator, Sequence
@@ -155,10 +156,8 @@ class Reading:
         names = {"TrapWidth": "width", "BlackWidth": "black", "SlidingTrapLimit": "slide"}
         for key, _, body in pairs_of(value):
             if key in names and isinstance(body, Token):
-                try:
+                with contextlib.suppress(ValueError):
                     self.last = replace(self.last, **{names[key]: float(body.text)})
-                except ValueError:
-                    pass
             elif key == "Enabled" and isinstance(body, Token):
                 self.last = replace(self.last, enabled=body.text != "false")
 

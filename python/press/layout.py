@@ -100,8 +100,7 @@ class Layout:
                                  "warnings": list(self.warnings)}
         found["coverage"] = {name: round(100 * share, 2) for name, share in self.coverage}
         found["total_ink"] = round(100 * self.total_ink, 1)
-        one = self.strokes
-        if one:
+        if one := self.strokes:
             found["thin"] = {"parts": one.parts, "lines": one.lines, "zones": one.zones,
                              "own_before": round(one.own_before, 3), "own_after": round(one.own_after, 3),
                              "too_thin": one.too_thin, "thinnest_points": round(one.least, 3),

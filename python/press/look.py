@@ -113,8 +113,7 @@ def part_of(text: str | None, painter: Painter) -> Part:
     head = painter.page.head
     if text is None:
         return 0, 0, head.width, head.height
-    most = re.fullmatch(r"most(?::(\d{1,5})x(\d{1,5}))?", text)
-    if most:
+    if most := re.fullmatch(r"most(?::(\d{1,5})x(\d{1,5}))?", text):
         if not painter.after:
             raise UsageError("--part most needs the traps, and there is --untrapped")
         return painter.most(*(max(1, int(side)) for side in most.groups() if side))

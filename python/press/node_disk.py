@@ -7,11 +7,10 @@ import shutil
 from collections.abc import Sequence
 
 from . import identity, job_record
-from .errors import PressError, Status
+from .errors import PressError, Status, refusal_of
 from .events import Event, Observer, PageDone, PageFailed, RunDone, RunStarted, silent
 from .files import folder_beside, named
 from .folder import JobFolder
-from .page_work import line_of
 from .recorded import options_from, without_run_only
 from .runs import RunResult, finish, page_locks, run
 from .settings import Settings
@@ -70,7 +69,7 @@ def put(made: JobFolder, job: JobFolder, settings: Settings, end: PageDone | Pag
         except (PressError, OSError) as fault:
             shutil.rmtree(copy, ignore_errors=True)
             if isinstance(end, PageDone):
-                end = PageFailed(number, Status.OUTPUT, f"press-all: {line_of(fault, job.page(number))}")
+                end = PageFailed(number, Status.OUTPUT, f"press-all: {refusal_of(fault, job.page(number))}")
         with contextlib.suppress(PressError):
             job.remove_old(number)
         why = end.why.replace(made.path, job.path).replace(copy, job.failed(number))
@@ -81,8 +80,7 @@ def put(made: JobFolder, job: JobFolder, settings: Settings, end: PageDone | Pag
 def record_from(folder: str, number: int, settings: Settings, out: str) -> job_record.Record:
     """The record of a page, with paths of its options that start at OUT and not at the node's own disk."""
     record = job_record.read_record(folder)
-    page = job_record.page_of(record, number)
-    if page:
+    if page := job_record.page_of(record, number):
         options = without_run_only(options_from(settings, out))
         pages = {str(number): {**page, job_record.OPTIONS: options}}
         record.update({job_record.OPTIONS: options, job_record.PAGES: pages})

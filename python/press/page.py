@@ -68,8 +68,7 @@ def prepare(source: Source, number: int, settings: Settings, book: InkBook, scra
     edits = edits_of(settings, book)
     rendering = edit_plates(render(source, number, settings, scratch), edits, scratch, source.place(number))
     inks = book.page_inks(rendering.separations, rendering.plates.has_ink())
-    pairs = pairs_file(settings, source.path)
-    if pairs:
+    if pairs := pairs_file(settings, source.path):
         inks = tuple(directed(inks, read_pairs(pairs)))
     within = trap_box(info, settings)[0]
     coverage = coverage_of(rendering.plates, inks, within, crew)

@@ -9,7 +9,7 @@ from dataclasses import dataclass, field
 
 from . import engine, identity, job_record, look, page as pages_of_source, preflight, proof, tiff, unchanged
 from .crew import Budget, Crew
-from .errors import PressError, Status, reason
+from .errors import PressError, Status, refusal_of
 from .events import FindingMade, Observer, PageDone, PageFailed, StepDone, StepStarted, Warned
 from .files import disk_use, folder_beside, free_room, is_full
 from .findings import Finding, refuse
@@ -31,19 +31,6 @@ class StepFailed(Exception):
     def __init__(self, command: str, refusal: PressError) -> None:
         super().__init__(command, refusal)
         self.command, self.refusal = command, refusal
-
-
-def refusal_of(fault: OSError, place: str) -> PressError:
-    """The refusal for a fault of the system, with the file that it names, or else a place."""
-    named = os.fsdecode(fault.filename) if isinstance(fault.filename, (str, bytes)) else place
-    refusal = PressError(Status.OUTPUT, reason(fault), named)
-    refusal.__cause__ = fault
-    return refusal
-
-
-def line_of(fault: PressError | OSError, place: str) -> str:
-    """What people read of a refusal or a fault of the system."""
-    return str(refusal_of(fault, place) if isinstance(fault, OSError) else fault)
 
 
 @dataclass
@@ -71,9 +58,7 @@ class PageWork:
         start = time.monotonic()
         try:
             yield
-        except PressError as refusal:
-            raise StepFailed(command, refusal) from refusal
-        except OSError as fault:
+        except (PressError, OSError) as fault:
             raise StepFailed(command, refusal_of(fault, self.job.page(self.number))) from fault
         self.observer(StepDone(self.number, what, time.monotonic() - start))
 
@@ -83,8 +68,7 @@ class PageWork:
 
     def need_room(self) -> None:
         """Refuses a page whose plates alone take more of the disk than there is, before they are made."""
-        info = self.source.page(self.number)
-        if info:
+        if info := self.source.page(self.number):
             width, height = info.samples(self.settings.box, self.settings.dpi)
             need, free = width * height * (len(PROCESS) + len(info.spots)), free_room(self.job.path)
             if need > free:
@@ -162,8 +146,7 @@ class PageWork:
 
     def need_same(self) -> None:
         """Refuses the page if its file was replaced since the start of the run."""
-        line = self.given.changed_line()
-        if line:
+        if line := self.given.changed_line():
             raise StepFailed("press-all", PressError(Status.INPUT, line))
 
     def make_part(self, made: PageFolder) -> None:

@@ -120,8 +120,7 @@ def judge(pdf: pikepdf.Pdf, pages: Sequence[TrappedPage], settings: PdfSettings,
         warn(result, settings, "its digital signature breaks", path)
     chosen = [pdf.pages[page.number - 1] for page in pages]
     for page in pages:
-        line = fonts_line(pdf.pages[page.number - 1], page.number)
-        if line:
+        if line := fonts_line(pdf.pages[page.number - 1], page.number):
             warn(result, settings, line, path)
     if settings.form != NETWORK and any(printed_annotations(page) for page in chosen):
         warn(result, settings, "annotations that are printed become part of the page", path)

@@ -101,8 +101,7 @@ def colorant_spaces(pdf: pikepdf.Pdf, spots: Sequence[Ink]) -> Any:
 def device_n(pdf: pikepdf.Pdf, inks: Sequence[Ink]) -> Any:
     """The space of all inks of the page, in the order of its plates."""
     colorants = [ink.colorant for ink in inks]
-    lacking = [process.decode() for process in PROCESS if process not in colorants]
-    if lacking:
+    if lacking := [process.decode() for process in PROCESS if process not in colorants]:
         raise PressError(Status.PLATES, f"no plate of {lacking[0]}: a trapped PDF needs a plate of each process ink")
     spots = [ink for ink in inks if ink.colorant not in PROCESS]
     process = Dictionary(ColorSpace=Name.DeviceCMYK, Components=Array([name_of(ink) for ink in PROCESS]))

@@ -171,8 +171,7 @@ def add_trap_network(pdf: pikepdf.Pdf, page: pikepdf.Page, form: Any, inks: Sequ
     """Gives the page a trap network, its last annotation, which is printed and cannot be edited."""
     wrap(pdf, page)
     form.PCM = Name.DeviceCMYK
-    spots = [name_of(ink.colorant) for ink in inks if ink.colorant not in PROCESS]
-    if spots:
+    if spots := [name_of(ink.colorant) for ink in inks if ink.colorant not in PROCESS]:
         form.SeparationColorNames = Array(spots)
     annotations = list(page.obj.get("/Annots", []))
     found: dict[tuple[int, int], Any] = {}

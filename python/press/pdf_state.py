@@ -154,8 +154,7 @@ def same(one: Any, other: Any) -> bool:
 
 def keep_form(pdf: pikepdf.Pdf, form: Any, gone: list[Any]) -> None:
     """Gives the file its form back, which flattening removes, without the fields that were flattened."""
-    left = [field for field in form.get("/Fields", Array()) if not any(same(field, one) for one in gone)]
-    if left:
+    if left := [field for field in form.get("/Fields", Array()) if not any(same(field, one) for one in gone)]:
         form.Fields = Array(left)
         pdf.Root.AcroForm = form
     elif "/AcroForm" in pdf.Root:

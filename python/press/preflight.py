@@ -110,8 +110,7 @@ def check(path: str, settings: Settings, pages: Sequence[int] = ()) -> FileRepor
 
 # The file
 
-def check_file(source: Source, settings: Settings, book: InkBook, pages: Sequence[int],
-               ) -> list[Finding]:
+def check_file(source: Source, settings: Settings, book: InkBook, pages: Sequence[int]) -> list[Finding]:
     """The findings of a file that need no rendering, for these pages."""
     for page in pages:
         if page > source.count:
@@ -151,8 +150,7 @@ def size_findings(source: Source, settings: Settings, page: int) -> Iterator[Fin
     colorants = len(info.spots) + len(PROCESS)
     if colorants > MOST_PLATES:
         yield Finding("size", FAULT, page, f"{colorants} colorants, and a job has at most {MOST_PLATES}", Status.PLATES)
-    size = size_finding(info, settings, page, 1)
-    if size:
+    if size := size_finding(info, settings, page, 1):
         yield size
 
 

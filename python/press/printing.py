@@ -179,8 +179,7 @@ class FarmLines:
 
     def work(self, line: str) -> None:
         """A line of a page that is at work: its progress; or a warning, which is printed once and not once a page."""
-        found = re.search(r": page (\d+) of \d+: (.*)$", line)
-        if found:
+        if found := re.search(r": page (\d+) of \d+: (.*)$", line):
             self.at_work[int(found.group(1))] = found.group(2)
             self.draw()
         elif ": note: " not in line:

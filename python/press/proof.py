@@ -15,8 +15,8 @@ from .engine import Report, read_report
 from .errors import PressError, Status
 from .files import whole_file, write_text
 from .findings import page_ranges
-from .folder import (JOB, JSON, NO_PLATES, PART, REPORT, SHEET, TABLE, TRAPPED, WARNINGS, JobFolder, PageFolder,
-                     read_layout, read_table, read_text)
+from .folder import (JOB, JSON, PART, REPORT, SHEET, TRAPPED, WARNINGS, JobFolder, PageFolder, read_layout, read_table,
+                     read_text)
 from .fringes import fringes_of
 from .names import readable
 from .picture import Painter, Part, mean_of, pale, shifted, trap_width
@@ -51,8 +51,7 @@ def write_sheet_of_all(out: str, asked: Sequence[int] = (), screened: str | None
     done, failed = JobFolder(out).pages()
     if not done and not failed:
         raise PressError(Status.NO_PLATES, "no plates here, and no pages of press/all", out)
-    absent = [page for page in asked if page not in done]
-    if absent:
+    if absent := [page for page in asked if page not in done]:
         failed_too = "failed" if absent[0] in failed else "is not here"
         raise PressError(Status.PDF, f"--page: page {absent[0]} {failed_too}; done are {page_ranges(done) or 'none'}",
                          out)
@@ -83,8 +82,6 @@ def parts_with_dots(folders: Mapping[int, str], screened: str | None) -> Iterato
 
 def write_part(folder: str, crew: Crew = ALONE) -> None:
     """Writes what a page gives to the sheet of all into its folder."""
-    if not os.path.exists(os.path.join(folder, TABLE)):
-        raise PressError(Status.NO_PLATES, NO_PLATES, folder)
     write_text(os.path.join(folder, PART), part_of_page(folder, crew), "replace")
 
 

@@ -60,8 +60,7 @@ def screened_reports(folder: str) -> dict[int, Report]:
     """The reports of press/screen in a folder, by pages."""
     found = {}
     for path in sorted(glob.glob(os.path.join(glob.escape(folder), "*.json"))):
-        report = read_report(path, "press-screen")
-        if report:
+        if report := read_report(path, "press-screen"):
             found[int(report["page"])] = report
     if not found:
         raise PressError(Status.NO_PLATES, "no screened plates here: press/screen writes them", folder)

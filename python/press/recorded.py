@@ -125,8 +125,7 @@ def settings_again(options: argparse.Namespace, chosen: Settings, out: str, page
             raise UsageError(f"--{differs}: page {page} of {out} was made with {was}, and not with {wanted} (without "
                              f"it the recorded options are used; --force makes the page with other ones)")
     merged = [{**one, **given} for one in recorded]
-    other = next((page for page, one in zip(pages, merged) if one != merged[0]), None)
-    if other:
+    if other := next((page for page, one in zip(pages, merged) if one != merged[0]), None):
         raise UsageError(f"--page: pages {pages[0]} and {other} of {out} were made with different options: make them "
                          f"one after the other")
     # The trapped PDF of the job has the page that is made again.

@@ -11,14 +11,14 @@ from dataclasses import dataclass
 from multiprocessing.connection import Connection
 
 from . import crew, engine, identity, job_record, pdf_beside, preflight, proof, tools
-from .errors import PressError, Status
+from .errors import PressError, Status, refusal_of
 from .events import (Event, FindingMade, Observer, PageDone, PageFailed, RunDone, RunStarted, StepStarted, Warned,
                      silent)
 from .files import LOCK, folder_beside, locked, scratch_folder, sweep
 from .findings import Finding, refuse
 from .folder import JobFolder
 from .inks import InkBook, open_book
-from .page_work import PageWork, line_of, refusal_of
+from .page_work import PageWork
 from .settings import Settings
 from .source import Source, open_source
 
@@ -67,8 +67,7 @@ OPEN_HERE: list[Opened] = []
 @contextlib.contextmanager
 def opened_file(path: str, settings: Settings, given: identity.Input) -> Iterator[Opened]:
     """A file while it is open. PostScript is converted."""
-    known = next((one for one in OPEN_HERE if one.given is given), None)
-    if known:
+    if known := next((one for one in OPEN_HERE if one.given is given), None):
         yield known
         return
     with scratch_folder() as scratch:
@@ -115,10 +114,8 @@ def work(todo: PageWork, end: Connection, parent: int) -> None:
         with todo.crew:
             done = todo.do()
         end.send(done)
-    except OSError as fault:
-        why = f"press-all: {refusal_of(fault, todo.job.page(todo.number))}"
-        end.send(PageFailed(todo.number, Status.OUTPUT, why))
-    except PressError as refusal:
+    except (PressError, OSError) as fault:
+        refusal = refusal_of(fault, todo.job.page(todo.number))
         end.send(PageFailed(todo.number, refusal.status, f"press-all: {refusal}"))
     except MemoryError:
         end.send(PageFailed(todo.number, Status.OUTPUT, "press-all: there is not enough memory"))
@@ -266,7 +263,7 @@ def finish(given: identity.Input, job: JobFolder, ends: dict[int, PageDone | Pag
         try:
             identity.gather(job, pages)
         except (PressError, OSError) as fault:
-            observer(Warned(None, "press-all", f"the pages are not in the record: {line_of(fault, job.path)}"))
+            observer(Warned(None, "press-all", f"the pages are not in the record: {refusal_of(fault, job.path)}"))
 
 
 def make_pdf(source: Source, out: str, settings: Settings, observer: Observer) -> str | None:
@@ -277,7 +274,7 @@ def make_pdf(source: Source, out: str, settings: Settings, observer: Observer) -
             observer(Warned(None, "press-pdf", f"{source.path}: {line}"))
         return None
     except (PressError, OSError) as fault:
-        why = line_of(fault, out)
+        why = str(refusal_of(fault, out))
         observer(Warned(None, "press-pdf", f"no trapped PDF: {why}"))
         return why
 
@@ -288,4 +285,4 @@ def make_sheet(out: str, observer: Observer) -> None:
     try:
         proof.write_sheet_of_all(out)
     except (PressError, OSError) as fault:
-        observer(Warned(None, "press-all", f"{out}: no proof sheet: press-proof: {line_of(fault, out)}"))
+        observer(Warned(None, "press-all", f"{out}: no proof sheet: press-proof: {refusal_of(fault, out)}"))

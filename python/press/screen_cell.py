@@ -68,8 +68,7 @@ def cells(screen: Screen, dpi: float) -> list[Cell]:
         raise UsageError(f"{screen.lpi:g} lines per inch at {dpi:g} dpi: a line needs at least {LEAST_PERIOD} pixels")
     found = [cell for cell in nearest_cells(screen, dpi) if turned_by(cell.angle, screen.angle) <= MOST_TURN]
     for stretch in STRETCHES:
-        near = [cell for cell in found if abs(cell.lpi(dpi) / screen.lpi - 1) <= stretch]
-        if near:
+        if near := [cell for cell in found if abs(cell.lpi(dpi) / screen.lpi - 1) <= stretch]:
             return near
     raise UsageError(f"no supercell of {screen.angle:g} degrees and {screen.lpi:g} lines per inch at {dpi:g} dpi "
                      f"within {MOST_TURN} degrees: take another angle or frequency")

@@ -3,6 +3,7 @@
 And what a PDF says of its pages before anything is drawn, by pikepdf. Whether a file can be read is for
 Ghostscript to decide.
 """
+import contextlib
 import os
 import re
 import subprocess
@@ -162,8 +163,7 @@ def complaint(done: "subprocess.CompletedProcess[bytes]") -> str:
     text = (done.stdout + b"\n" + done.stderr).decode("utf-8", "replace")
     for pattern in (r"\*{4} (This file requires a password)", r"GPL Ghostscript [\d.]+: ((?!Unrecoverable)\S.*)",
                     r"(Error: /.*)", r"\*{4} (.*)"):
-        found = re.search(pattern, text)
-        if found:
+        if found := re.search(pattern, text):
             return found.group(1).strip()
     return f"Ghostscript ended with {done.returncode}"
 
@@ -193,13 +193,10 @@ def open_source(path: str, folder: str, seconds: float | None = None) -> Source:
 
 def page_count(path: str, folder: str, is_known: bool, seconds: float | None) -> int:
     """How many pages in.pdf has: by pikepdf if the file is whole and is not encrypted, by Ghostscript otherwise."""
-    try:
-        with pikepdf.open(os.path.join(folder, "in.pdf")) as pdf:
-            count = len(pdf.pages)
-            if count and is_known and not pdf.is_encrypted and not pdf.get_warnings():
-                return count
-    except UNREAD:
-        pass
+    with contextlib.suppress(*UNREAD), pikepdf.open(os.path.join(folder, "in.pdf")) as pdf:
+        count = len(pdf.pages)
+        if count and is_known and not pdf.is_encrypted and not pdf.get_warnings():
+            return count
     words = ["-q", "-dNODISPLAY", "--permit-file-read=in.pdf", "-c", COUNT_PAGES]
     done = ghostscript(folder, words, seconds, path)
     found = re.search(rb"^pages (\d+)$", done.stdout, re.MULTILINE)
@@ -269,11 +266,8 @@ def page_info(pdf: pikepdf.Pdf, number: int) -> PageInfo | None:
         page = pdf.pages[number - 1].obj
         if not isinstance(page, pikepdf.Dictionary):
             return None
-        boxes = {}
-        for box, name in BOX_NAMES.items():
-            numbers = box_numbers(inherited(page, "/" + name))
-            if numbers:
-                boxes[box] = numbers
+        boxes = {box: numbers for box, name in BOX_NAMES.items()
+                 if (numbers := box_numbers(inherited(page, "/" + name)))}
         rotate, unit = inherited(page, "/Rotate"), page.get("/UserUnit")
         spots = dict.fromkeys(spots_of(inherited(page, "/Resources"), set(), 0))
         return PageInfo(boxes, int(float(rotate)) % 360 if rotate is not None else 0,

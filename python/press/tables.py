@@ -2,6 +2,7 @@
 """What the job language has, by the tables of docs/JOBS.md: the parameters, and the kinds of ink.
 """
 import functools
+import itertools
 import os
 from dataclasses import dataclass
 
@@ -33,12 +34,7 @@ def rows_of(*head: str) -> list[list[str]]:
     """The rows of the table whose header begins with these cells."""
     lines = document()
     start = next(at for at, cells in enumerate(lines) if cells[:len(head)] == list(head))
-    rows = []
-    for cells in lines[start + 2:]:
-        if len(cells) == 1:
-            break
-        rows.append(cells)
-    return rows
+    return list(itertools.takewhile(lambda cells: len(cells) > 1, lines[start + 2:]))
 
 
 @functools.lru_cache(maxsize=None)

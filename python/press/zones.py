@@ -18,7 +18,7 @@ from .job_language import KEYS, SCALE, JobSyntaxError, JobZone, Parameters, read
 from .regions import Shape, disjoint, fewer, shape_of, split_by
 
 # The limits of a job (docs/JOBS.md), and how many corners a rectangle takes.
-MOST_ZONES, MOST_OF_PATH, MOST_VERTICES = 250, 4096, 16_384
+MOST_ZONES, MOST_VERTICES = 250, 16_384
 CORNERS = 4
 RECTS_OF_ZONE = 1000
 # What a page's own zone is drawn beyond the page, so that no sample of its border is left out.
@@ -224,14 +224,9 @@ class Composer:
                     if parameters.enabled and width * SCALE < parameters.trap_width:
                         places.setdefault((int(width * SCALE), at), []).append(piece)
         places = self.fitting(places)
-        found = []
-        for (width, at), rects in sorted(places.items(), key=lambda one: -one[0][0]):
-            parameters = replace(below[at].parameters, trap_width=width) if width else \
-                replace(below[at].parameters, enabled=False)
-            for part in chunks(rects):
-                found.append(Piece(tuple(ring for rect in part for ring in shape_of(rect)), parameters,
-                                   below[at].limits, "Thin strokes (--no-thin-zones leaves them the page's width):"))
-        return self.take(found)
+        reason = "Thin strokes (--no-thin-zones leaves them the page's width):"
+        return self.take([piece for (width, at), rects in sorted(places.items(), key=lambda one: -one[0][0])
+                          for piece in narrowed(rects, width, below[at], reason)])
 
     def pair_zones(self, below: Sequence[Piece]) -> list[Piece]:
         """A zone for each pair of inks and each zone below that is enabled, with the factor of that zone's width."""
@@ -248,7 +243,8 @@ class Composer:
                 if len(kept) > self.rects_left // 2 or len(list(chunks(kept))) > self.zones_left:
                     lost += len(rects)
                 else:
-                    found += self.take(list(pair_pieces(pair, kept, below[at])))
+                    width = min(100 * SCALE, int(below[at].parameters.trap_width * pair.factor))
+                    found += self.take(list(narrowed(kept, width, below[at], pair.reason)))
         if lost:
             self.warnings.append(f"{lost} places of pairs of inks get no zone of their own, {LIMITS}: they have the "
                                  f"width of the zone around them")
@@ -340,12 +336,11 @@ class Composer:
         return {reason: found.count(reason) / GRID ** 2 for reason in sorted(set(found))}
 
 
-def pair_pieces(pair: Pair, rects: Sequence[Rect], below: Piece) -> Iterator[Piece]:
-    """The zones of places where two inks meet, with the factor of the trap width of the zone below."""
-    width = min(100 * SCALE, int(below.parameters.trap_width * pair.factor))
+def narrowed(rects: Sequence[Rect], width: int, below: Piece, reason: str) -> Iterator[Piece]:
+    """Zones with another trap width than the zone below, in ten-thousandths of a point; 0 is no trap."""
     parameters = replace(below.parameters, trap_width=width) if width else replace(below.parameters, enabled=False)
     for part in chunks(rects):
-        yield Piece(tuple(ring for rect in part for ring in shape_of(rect)), parameters, below.limits, pair.reason)
+        yield Piece(tuple(ring for rect in part for ring in shape_of(rect)), parameters, below.limits, reason)
 
 
 def grid_spans(shape: Shape, size: tuple[float, float]) -> Iterator[tuple[int, int, int]]:

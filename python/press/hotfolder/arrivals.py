@@ -66,14 +66,12 @@ class Arrivals:
             still = self.clock() - self.seen[name].since
             if still >= self.hot.settle:
                 with contextlib.suppress(FileNotFoundError):
-                    one = self.check(name, os.path.join(self.hot.path, name), still)
-                    if one:
+                    if one := self.check(name, os.path.join(self.hot.path, name), still):
                         yield one
 
     def check(self, name: str, path: str, still: float) -> Ready | None:
         """A file that has been unchanged for so many seconds, if it is ready."""
-        fault = fault_of(path)
-        if fault:
+        if fault := fault_of(path):
             return Ready(name, fault)
         held = is_held(path)
         if held is not False and is_open(path):

@@ -104,8 +104,7 @@ class Station:
     def end(self, job: Job) -> None:
         """Files a file whose run has ended, or has it made again."""
         one = job.claim
-        void = job.void()
-        if void:
+        if void := job.void():
             one.give_up()
             self.say(void, one.name)
             self.later.append((time.monotonic() + max(TICK, self.hot.settle), one))
