@@ -117,11 +117,6 @@ def say(text: str) -> None:
     print(clean(f"{command_name()}: {text}"), file=sys.stderr, flush=True)
 
 
-def warn(text: str) -> None:
-    """A warning, printed once."""
-    LOG.warning("%s", text)
-
-
 def stop(number: int, _: Any) -> NoReturn:
     """Ends the command. What it made is cleared away on the way out, which a second signal does not stop."""
     for one in STOPS:

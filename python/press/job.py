@@ -110,12 +110,10 @@ Node = Token | Entries | list["Node"]
 
 @dataclass(frozen=True)
 class ZoneParameters:
-    """What holds in a zone: the trap's width in points, the factor at black, from where traps slide, and
-    whether it is trapped."""
+    """What holds in a zone: the trap's width in points, the factor at black, and whether it is trapped."""
 
     width: float = USUAL_WIDTH
     black: float = 1.0
-    slide: float = 0.7
     enabled: bool = True
 
 
@@ -153,7 +151,7 @@ class Reading:
     def parameters(self, value: Node) -> None:
         """What a dictionary before settrapparams makes of the parameters that hold."""
         self.check(value, {**{key: {} for key in tables.parameters()}, **LIMITS}, "settrapparams")
-        names = {"TrapWidth": "width", "BlackWidth": "black", "SlidingTrapLimit": "slide"}
+        names = {"TrapWidth": "width", "BlackWidth": "black"}
         for key, _, body in pairs_of(value):
             if key in names and isinstance(body, Token):
                 with contextlib.suppress(ValueError):

@@ -2,11 +2,11 @@
 """Events as JSON Lines: a JSON object in ASCII on a line of its own for each. docs/JSON.md has their keys."""
 import dataclasses
 import json
-from collections.abc import Callable
 from typing import Any
 
 from .errors import PressError
 from .events import Event, FindingMade, PageDone, PageFailed, RunDone, RunStarted, StepDone, StepStarted, Warned
+from .printing import put
 
 NAMES: dict[type, str] = {
     RunStarted: "run-started", StepStarted: "step-started", StepDone: "step-done", Warned: "warning",
@@ -29,15 +29,11 @@ def refusal_record(refusal: PressError) -> dict[str, Any]:
     return {"event": "refused", "status": int(refusal.status), "place": refusal.place, "text": refusal.message}
 
 
-class JsonLines:
-    """An observer that gives each event as a line to `emit`."""
+def put_record(record: dict[str, Any]) -> None:
+    """Prints an object."""
+    put(json.dumps(record))
 
-    def __init__(self, emit: Callable[[str], None]) -> None:
-        self.emit = emit
 
-    def __call__(self, event: Event) -> None:
-        self.write(event_record(event))
-
-    def write(self, record: dict[str, Any]) -> None:
-        """An object of its own."""
-        self.emit(json.dumps(record))
+def put_event(event: Event) -> None:
+    """An observer that prints each event."""
+    put_record(event_record(event))

@@ -39,13 +39,15 @@ def photoshop_resources(spots: Sequence[Ink]) -> bytes:
         resource(LOOKS, b"".join(map(look, spots)))
 
 
+def ink_tags(inks: Sequence[Ink]) -> list[Tag]:
+    """The tags of a page whose channels are these inks."""
+    return [(INK_SET, "H", 1, CMYK_INKS, True), (NUMBER_OF_INKS, "H", 1, len(inks), True),
+            (INK_NAMES, "s", None, b"\0".join(ink.colorant for ink in inks), True)]
+
+
 def multi_tags(inks: Sequence[Ink], place: str) -> list[Tag]:
-    """The tags of a page whose channels are all inks. The first four have to be the process inks."""
+    """The same with the looks of spots. The first four inks have to be the process inks."""
     if [ink.name for ink in inks[:4]] != list(PROCESS):
         raise PressError(Status.PLATES, "--multi needs plates of all process inks", place)
-    tags: list[Tag] = [(INK_SET, "H", 1, CMYK_INKS, True), (NUMBER_OF_INKS, "H", 1, len(inks), True),
-                       (INK_NAMES, "s", None, b"\0".join(ink.colorant for ink in inks), True)]
-    if len(inks) > 4:
-        data = photoshop_resources(inks[4:])
-        tags.append((PHOTOSHOP, "B", len(data), data, True))
-    return tags
+    data = photoshop_resources(inks[4:]) if len(inks) > 4 else b""
+    return [*ink_tags(inks), *[(PHOTOSHOP, "B", len(data), data, True)] * bool(data)]

@@ -9,6 +9,7 @@ from . import job
 from .files import beside
 from .findings import NOTE, WARNING, Finding
 from .job_language import SCALE, JobSyntaxError, JobZone, read_job
+from .rects import Rect, around
 from .settings import Settings, house_file
 from .source import PageInfo
 
@@ -74,13 +75,10 @@ def zones_of(text: bytes) -> tuple[JobZone, ...]:
         return ()
 
 
-def bounds(zone: JobZone) -> tuple[float, float, float, float] | None:
+def bounds(zone: JobZone) -> Rect | None:
     """The left, lower, right and upper sides of a zone in points, or None if its path is empty."""
-    points = [point for subpath in zone.subpaths for point in subpath]
-    if not points:
-        return None
-    across, up = [x / SCALE for x, _ in points], [y / SCALE for _, y in points]
-    return min(across), min(up), max(across), max(up)
+    points = [(x / SCALE, y / SCALE) for subpath in zone.subpaths for x, y in subpath]
+    return around(points) if points else None
 
 
 def covers(zone: JobZone, size: tuple[float, float], dpi: int) -> bool:

@@ -14,12 +14,12 @@ from .files import scratch_folder
 from .icc import need_press_profile
 from .job_record import SHORT, digest_of
 from .output_report import full_disk_refused
-from .pdf_grid import box_of_plates, grid_matrix, inherited
+from .pdf_grid import box_of_plates, grid_matrix
 from .pdf_layer import Paint, add_trap_network, layer_of, put_on_page, traps_form
 from .pdf_state import flatten, is_signed, mark_trapped, open_pdf, printed_annotations, remove_traps, signs_of_trapping
 from .pdf_tiles import TrapCount, tile_images
 from .pdf_verify import Expected, Grid, verify
-from .source import UNREAD
+from .source import UNREAD, inherited
 from .trapped_page import TrappedPage
 
 MOST_MARGIN = 16
@@ -85,7 +85,7 @@ def need_distinct(pages: Sequence[TrappedPage], count: int, path: str) -> None:
 def fonts_line(page: pikepdf.Page, number: int) -> str | None:
     """What there is to be said of fonts that the file does not embed."""
     try:
-        names = sorted(set(fonts_outside(inherited(page, "/Resources"), set(), 0)))
+        names = sorted(set(fonts_outside(inherited(page.obj, "/Resources"), set(), 0)))
     except (*UNREAD, AttributeError, TypeError, ValueError, KeyError, IndexError):
         return None
     if not names:

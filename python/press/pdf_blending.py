@@ -7,7 +7,7 @@ from typing import Any
 import pikepdf
 from pikepdf import Dictionary
 
-from .pdf_grid import inherited
+from .source import inherited
 
 OPAQUE_MODES = ("/Normal", "/Compatible")
 
@@ -20,10 +20,10 @@ def has_transparency(page: pikepdf.Page) -> bool:
 def objects_of(page: pikepdf.Page) -> Iterator[Any]:
     """The graphics states, forms, images and patterns of a page's resources, of those below them, and the appearances
     of its annotations."""
-    annotations = inherited(page, "/Annots")
+    annotations = inherited(page.obj, "/Annots")
     looks = [one.get("/AP") for one in annotations if isinstance(one, Dictionary)] \
         if isinstance(annotations, pikepdf.Array) else []
-    waiting, seen = [inherited(page, "/Resources"), *looks], set()
+    waiting, seen = [inherited(page.obj, "/Resources"), *looks], set()
     while waiting:
         one = waiting.pop()
         below = one.stream_dict if isinstance(one, pikepdf.Stream) else one

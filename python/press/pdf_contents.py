@@ -11,7 +11,8 @@ import pikepdf
 from pikepdf import Array, Dictionary, Name, Object
 
 from .errors import PressError, Status
-from .pdf_grid import box_of, inherited, plain_number
+from .pdf_grid import box_of, plain_number
+from .source import inherited
 
 LEVEL = 6
 # The entry by which streams and objects that press/pdf adds are found again.
@@ -73,7 +74,7 @@ def is_tagged(page: pikepdf.Page) -> bool:
 
 def own_resources(page: pikepdf.Page) -> Any:
     """The page's resources as a dictionary that no other page shares. What its dictionaries hold stays shared."""
-    found = inherited(page, "/Resources")
+    found = inherited(page.obj, "/Resources")
     resources = copy.copy(found) if isinstance(found, pikepdf.Dictionary) else Dictionary()
     for kind in ("/XObject", "/Properties"):
         part = resources.get(kind)
@@ -135,7 +136,7 @@ def set_apart(pdf: pikepdf.Pdf, page: pikepdf.Page, closing: bytes) -> None:
                          "on those colours")
     data = b"q\n" + b"\n".join(stream.read_bytes() for stream in content_streams(page)) + b"\n" + closing + b"Q\n"
     media = box_of(page, "media")
-    resources = inherited(page, "/Resources")
+    resources = inherited(page.obj, "/Resources")
     form = deflated(pdf, data, Type=Name.XObject, Subtype=Name.Form, FormType=1, Group=page.obj.Group,
                     BBox=numbers([media.left, media.lower, media.right, media.upper]),
                     Resources=resources if isinstance(resources, pikepdf.Dictionary) else Dictionary())

@@ -1,69 +1,42 @@
 # SPDX-License-Identifier: Apache-2.0
 """The plates' grid on a PDF page: the box that was drawn, and the matrix from pixels to the page's user space."""
-from dataclasses import dataclass
-from typing import Any
-
 import pikepdf
 
 from .errors import PressError, Status
+from .rects import NOTHING, Rect
+from .source import BOX_NAMES, box_numbers, inherited
 
-BOXES = {"media": "/MediaBox", "crop": "/CropBox", "bleed": "/BleedBox", "trim": "/TrimBox", "art": "/ArtBox"}
 ANCHORS = ("top", "bottom")
-DEEPEST_TREE = 64
 # By how many pixels Ghostscript's grid may be off, somewhat less than a half. A page that is a half more than whole
 # pixels cannot be exact in all renderers.
 MOST_SHIFT = 0.45
-LETTER = (0.0, 0.0, 612.0, 792.0)
-
-
-@dataclass(frozen=True)
-class Box:
-    """A box of a page in points."""
-
-    left: float
-    lower: float
-    right: float
-    upper: float
-
-
-def inherited(page: pikepdf.Page, name: str) -> Any:
-    """A value of the page, or of the nodes above it in the page tree; None if none has it."""
-    node, depth = page.obj, 0
-    while isinstance(node, pikepdf.Dictionary) and depth < DEEPEST_TREE:
-        if name in node:
-            return node[name]
-        node, depth = node.get("/Parent"), depth + 1
-    return None
+LETTER = Rect(0.0, 0.0, 612.0, 792.0)
 
 
 def inherited_number(page: pikepdf.Page, name: str, otherwise: float) -> float:
     """A number of the page or of the page tree, or another one if it has none."""
     try:
-        return float(inherited(page, name))
+        return float(inherited(page.obj, name))
     except (TypeError, ValueError):
         return otherwise
 
 
-def read_box(page: pikepdf.Page, name: str) -> Box | None:
-    """A box by its name in the PDF, if the page has it and it has four numbers."""
-    value = inherited(page, name)
-    if not isinstance(value, pikepdf.Array) or len(value) != 4:
-        return None
+def read_box(page: pikepdf.Page, box: str) -> Rect | None:
+    """A box in points by the name that --box has for it, if the page has it and it has four numbers."""
     try:
-        one, two, three, four = (float(side) for side in list(value))
+        found = box_numbers(inherited(page.obj, "/" + BOX_NAMES[box]))
     except (TypeError, ValueError):
         return None
-    return Box(min(one, three), min(two, four), max(one, three), max(two, four))
+    return Rect(*found) if found else None
 
 
-def box_of(page: pikepdf.Page, box: str) -> Box:
+def box_of(page: pikepdf.Page, box: str) -> Rect:
     """The box that is drawn, within the media box. A page that lacks it has its crop box drawn, or else its media
     box."""
-    media = read_box(page, "/MediaBox") or Box(*LETTER)
-    one = media if box == "media" else read_box(page, BOXES[box]) or read_box(page, "/CropBox") or media
-    within = Box(max(one.left, media.left), max(one.lower, media.lower), min(one.right, media.right),
-                 min(one.upper, media.upper))
-    return within if within.left < within.right and within.lower < within.upper else media
+    media = read_box(page, "media") or LETTER
+    one = media if box == "media" else read_box(page, box) or read_box(page, "crop") or media
+    within = one.common(media)
+    return within if within != NOTHING else media
 
 
 def rotation(page: pikepdf.Page) -> int:
@@ -96,7 +69,7 @@ def fits(page: pikepdf.Page, box: str, dpi: float, size: tuple[int, int]) -> boo
 
 def box_of_plates(page: pikepdf.Page, number: int, dpi: float, size: tuple[int, int]) -> str:
     """The box whose size the plates have, the media box before others. Boxes of one size and place are one."""
-    found = [box for box in BOXES if fits(page, box, dpi, size)]
+    found = [box for box in BOX_NAMES if fits(page, box, dpi, size)]
     places = {box_of(page, box) for box in found}
     if not found:
         width, height = size_in_pixels(page, "media", dpi)

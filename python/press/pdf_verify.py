@@ -1,24 +1,22 @@
 # SPDX-License-Identifier: Apache-2.0
 """Whether a trapped PDF renders to the trapped plates: Ghostscript draws it again, and every byte of every plate is
 compared."""
-import os
 import tempfile
-import urllib.parse
 from collections.abc import Sequence
 from dataclasses import dataclass
 
 import numpy as np
-import tifffile
 
 from .errors import PressError, Status
-from .files import need_room
 from .names import readable
 from .pdf_tiles import Samples
 from .plates import release
-from .render import BOX_OPTIONS, colorant_in, link, profile_words
+from .render import BOX_OPTIONS, link, plane, profile_words, suffixes_in
 from .source import complaint, ghostscript
 
 PAPER = 255
+# What refusals call the file.
+MADE = "the trapped PDF"
 ROWS = 512
 # Plates of so many bytes are drawn by one run of Ghostscript.
 MOST_BYTES = 1 << 28
@@ -65,16 +63,6 @@ class Difference:
                 f"plate {255 - self.wanted}; {self.count} pixels of this plate differ")
 
 
-def separations_in(folder: str, stem: str, inks: Sequence[bytes]) -> dict[bytes, str]:
-    """The files that tiffsep made of a page, by each ink's name."""
-    found = {}
-    for file in os.listdir(os.fsencode(folder)):
-        if file.startswith(stem.encode() + b"(") and file.endswith(b").tif"):
-            name = urllib.parse.unquote_to_bytes(file[len(stem) + 1:-5])
-            found[colorant_in(name, list(inks))] = os.fsdecode(os.path.join(os.fsencode(folder), file))
-    return found
-
-
 def first_difference(one: Samples, other: Samples) -> tuple[int, int, int] | None:
     """The first pixel that differs, as x and y, and how many do."""
     first, count = None, 0
@@ -88,22 +76,14 @@ def first_difference(one: Samples, other: Samples) -> tuple[int, int, int] | Non
     return None if first is None else (*first, count)
 
 
-def plane(path: str) -> Samples:
-    """The samples of a separation, mapped into memory. Ghostscript does not notice that a disk is full."""
-    try:
-        found: Samples = tifffile.memmap(path, mode="r")
-    except (tifffile.TiffFileError, ValueError, IndexError, OSError) as fault:
-        need_room(os.path.dirname(path), "Ghostscript drew")
-        raise PressError(Status.PDF, "Ghostscript did not write the plates whole", "the trapped PDF") from fault
-    return found
-
-
-def compare_page(expected: Expected, files: dict[bytes, str]) -> Difference | None:
-    """The first plate's first difference; a plate that should not be there has to be blank."""
+def compare_page(expected: Expected, folder: str, stem: str) -> Difference | None:
+    """The first plate's first difference; a plate that should not be there has to be blank. tiffsep's files of the page
+    are called STEM(Cyan).tif and so on."""
+    suffixes = suffixes_in(folder, stem, list(expected.plates))
     for ink, wanted in expected.plates.items():
-        if ink not in files:
+        if ink not in suffixes:
             return Difference(expected.page, ink, 0, 0, PAPER, int(wanted[0, 0]), wanted.size)
-        found = plane(files[ink])
+        found = plane(folder, stem, suffixes[ink], MADE)
         if found.shape != wanted.shape:
             raise PressError(Status.PDF, f"Ghostscript draws {found.shape[1]} by {found.shape[0]} pixels, and the "
                              f"plates have {wanted.shape[1]} by {wanted.shape[0]}", f"page {expected.page}")
@@ -112,8 +92,8 @@ def compare_page(expected: Expected, files: dict[bytes, str]) -> Difference | No
         if place is not None:
             x, y, count = place
             return Difference(expected.page, ink, x, y, int(found[y, x]), int(wanted[y, x]), count)
-    for ink in files.keys() - expected.plates.keys():
-        found = plane(files[ink])
+    for ink in suffixes.keys() - expected.plates.keys():
+        found = plane(folder, stem, suffixes[ink], MADE)
         if int(found.min()) < PAPER:
             row, column = np.unravel_index(int(np.argmin(found)), found.shape)
             count = int(np.count_nonzero(found < PAPER))
@@ -129,9 +109,9 @@ def render_again(path: str, folder: str, run: Sequence[Expected]) -> None:
              *BOX_OPTIONS[grid.box]]
     link(path, folder, "in.pdf")
     words += profile_words(grid.icc, folder)
-    done = ghostscript(folder, [*words, "in.pdf"], None, "the trapped PDF")
+    done = ghostscript(folder, [*words, "in.pdf"], None, MADE)
     if done.returncode != 0:
-        raise PressError(Status.PDF, f"Ghostscript cannot read it: {complaint(done)}", "the trapped PDF")
+        raise PressError(Status.PDF, f"Ghostscript cannot read it: {complaint(done)}", MADE)
 
 
 def runs_of(pages: Sequence[Expected]) -> list[list[Expected]]:
@@ -153,8 +133,7 @@ def verify(path: str, pages: Sequence[Expected], scratch: str) -> Difference | N
         with tempfile.TemporaryDirectory(dir=scratch) as folder:
             render_again(path, folder, run)
             for at, expected in enumerate(run, 1):
-                files = separations_in(folder, f"page{at:06d}", list(expected.plates))
-                different = compare_page(expected, files)
+                different = compare_page(expected, folder, f"page{at:06d}")
                 if different is not None:
                     return different
     return None

@@ -6,7 +6,7 @@ import sys
 import time
 from collections.abc import Callable
 
-from .command import say, warn
+from .command import LOG, say
 from .events import Event, FindingMade, PageDone, PageFailed, RunStarted, StepStarted, Warned
 from .files import size_text
 from .findings import FAULT, WARNING
@@ -82,7 +82,7 @@ class Warnings:
         elif isinstance(event, FindingMade):
             line = f"{self.path}: {event.finding.said}"
             if event.finding.level == WARNING:
-                warn(line)
+                LOG.warning(line)
             elif event.finding.kind == "overridden":
                 say(f"note: {line}")
 

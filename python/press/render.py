@@ -4,6 +4,7 @@ import os
 import re
 import subprocess
 import urllib.parse
+from collections.abc import Sequence
 from dataclasses import dataclass
 
 import tifffile
@@ -67,12 +68,7 @@ def render(source: Source, page: int, settings: Settings, folder: str) -> Render
     separations = separations_in(folder, done.stdout + b"\n" + done.stderr)
     if separations is None:
         raise PressError(Status.PDF, "Ghostscript made no page of it", source.place(page))
-    try:
-        arrays = tuple(plane(folder, one) for one in separations)
-    except (tifffile.TiffFileError, ValueError, IndexError, OSError) as fault:
-        # Ghostscript does not notice that a disk is full.
-        need_room(folder, "Ghostscript drew")
-        raise PressError(Status.PDF, "Ghostscript did not write the plates whole", source.place(page)) from fault
+    arrays = tuple(plane(folder, DRAWN, one.suffix, source.place(page)) for one in separations)
     os.remove(os.path.join(folder, DRAWN + ".tif"))
     plates = Plates(tuple(one.name for one in separations), arrays, 255, settings.dpi)
     return Rendering(page, tuple(separations), plates, repairs_in(done), fonts_in(done))
@@ -94,11 +90,24 @@ def profile_words(profile: str | None, folder: str) -> list[str]:
     return ["-sOutputICCProfile=output.icc", "-sDefaultCMYKProfile=output.icc", "--permit-file-read=output.icc"]
 
 
-def plane(folder: str, one: Separation) -> Array:
-    """The raster of a separation: rows × columns, 0 is full ink."""
-    path = os.path.join(os.fsencode(folder), os.fsencode(DRAWN) + b"(" + one.suffix + b").tif")
-    array: Array = tifffile.memmap(os.fsdecode(path), mode="r")
+def plane(folder: str, stem: str, suffix: bytes, place: str) -> Array:
+    """The raster of a file STEM(SUFFIX).tif: rows × columns, 0 is full ink. `place` is the page, for a refusal."""
+    path = os.path.join(os.fsencode(folder), os.fsencode(stem) + b"(" + suffix + b").tif")
+    try:
+        array: Array = tifffile.memmap(os.fsdecode(path), mode="r")
+    except (tifffile.TiffFileError, ValueError, IndexError, OSError) as fault:
+        # Ghostscript does not notice that a disk is full.
+        need_room(folder, "Ghostscript drew")
+        raise PressError(Status.PDF, "Ghostscript did not write the plates whole", place) from fault
     return array
+
+
+def suffixes_in(folder: str, stem: str, known: Sequence[bytes]) -> dict[bytes, bytes]:
+    """How tiffsep spells each colorant in the names of its files, STEM(SUFFIX).tif. Some colorants are known."""
+    head, end = os.fsencode(stem) + b"(", b").tif"
+    suffixes = [file[len(head):-len(end)] for file in os.listdir(os.fsencode(folder))
+                if file.startswith(head) and file.endswith(end)]
+    return {colorant_in(urllib.parse.unquote_to_bytes(suffix), known): suffix for suffix in suffixes}
 
 
 def separations_in(folder: str, text: bytes) -> list[Separation] | None:
@@ -107,10 +116,7 @@ def separations_in(folder: str, text: bytes) -> list[Separation] | None:
     printed = re.findall(rb'%%SeparationColor: "(.*?)" 100% ink = (\d+) (\d+) (\d+) (\d+) CMYK', text, re.DOTALL)
     looks = {name: look_of(parts) for name, *parts in printed}
     process = [name.encode() for name in PROCESS]
-    suffixes = {}
-    for file in os.listdir(os.fsencode(folder)):
-        if file.startswith(os.fsencode(DRAWN) + b"(") and file.endswith(b").tif"):
-            suffixes[colorant_in(urllib.parse.unquote_to_bytes(file[5:-5]), [*process, *looks])] = file[5:-5]
+    suffixes = suffixes_in(folder, DRAWN, [*process, *looks])
     if any(name not in suffixes for name in process):
         return None
     colorants = process + sorted(name for name in suffixes if name not in process)
@@ -125,7 +131,7 @@ def look_of(parts: list[bytes]) -> Look:
     return cyan, magenta, yellow, black
 
 
-def colorant_in(name: bytes, known: list[bytes]) -> bytes:
+def colorant_in(name: bytes, known: Sequence[bytes]) -> bytes:
     """The colorant that a file is named for: tiffsep puts a number after a name that differs from another's
     only in capitals."""
     if name in known:

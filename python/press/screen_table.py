@@ -11,6 +11,7 @@ from .inks import Ink
 from .names import readable
 from .screen_cell import SHAPES, Screen
 from .screen_dots import LINEAR, Curve
+from .settings import number, one_of
 
 LETTERS = {"C": "Cyan", "M": "Magenta", "Y": "Yellow", "K": "Black"}
 USUAL_ANGLES = {"Cyan": 15.0, "Magenta": 75.0, "Yellow": 0.0, "Black": 45.0}
@@ -30,20 +31,6 @@ class InkScreen:
     curve_name: str = "linear"
 
 
-def number_of(text: str, least: float, most: float, what: str) -> float:
-    """A number within limits."""
-    if re.fullmatch(r"\d{1,4}(\.\d*)?|\.\d+", text) and least <= float(text) <= most:
-        return float(text)
-    raise UsageError(f"{what} is a number from {least:g} to {most:g}, and not '{text}'")
-
-
-def shape_of(text: str, what: str = "--shape") -> str:
-    """The name of a shape."""
-    if text not in SHAPES:
-        raise UsageError(f"{what} is one of {', '.join(SHAPES)}, and not '{text}'")
-    return text
-
-
 def angles_of(text: str) -> dict[str, float]:
     """The angles of C15,M75,Y0,K45, or of NAME=ANGLE, by the inks' names."""
     found = {}
@@ -52,7 +39,7 @@ def angles_of(text: str) -> dict[str, float]:
         if not match:
             raise UsageError(f"--angles is C15,M75,Y0,K45 or NAME=ANGLE, and not '{part}'")
         name, angle = (LETTERS[match[1]], match[2]) if match[1] else (match[3], match[4])
-        found[name] = number_of(angle, 0, 180, f"--angles: {name}")
+        found[name] = number(angle, 0, 180, f"--angles: {name}")
     return found
 
 
@@ -66,7 +53,7 @@ def read_curve(path: str) -> Curve:
         place = f"{path}: line {count}"
         if len(words) != 2:
             raise PressError(Status.INPUT, "a line of a curve has two numbers, from 0 to 100", place)
-        tint, wanted = (number_of(word, 0, 100, place) for word in words)
+        tint, wanted = (number(word, 0, 100, place) for word in words)
         points[tint] = wanted
     curve = tuple(sorted(points.items()))
     if points[0.0] or points[100.0] != 100:
@@ -87,11 +74,11 @@ def read_line(words: Sequence[str], usual: InkScreen, place: str, folder: str) -
     """The screen of a table's line. What is left out, or is -, is as usual."""
     given = [*words[1:], *("-" for _ in range(6 - len(words)))]
     angle, lpi, shape, least, curve = ("" if word == "-" else word for word in given)
-    screen = Screen(number_of(angle, 0, 180, f"{place}: the angle") if angle else usual.screen.angle,
-                    number_of(lpi, LEAST_LPI, MOST_LPI, f"{place}: lpi") if lpi else usual.screen.lpi,
-                    shape_of(shape, f"{place}: the shape") if shape else usual.screen.shape)
+    screen = Screen(number(angle, 0, 180, f"{place}: the angle") if angle else usual.screen.angle,
+                    number(lpi, LEAST_LPI, MOST_LPI, f"{place}: lpi") if lpi else usual.screen.lpi,
+                    one_of(f"{place}: the shape", SHAPES)(shape) if shape else usual.screen.shape)
     if least:
-        usual = replace(usual, least=number_of(least, 0, 50, f"{place}: the least dot"))
+        usual = replace(usual, least=number(least, 0, 50, f"{place}: the least dot"))
     one = replace(usual, screen=screen)
     return with_curve(one, curve, folder) if curve else one
 

@@ -20,7 +20,7 @@ from .errors import PressError, Status, UsageError
 from .files import folder_beside, head_of, named, refusing
 from .folder import PageFolder
 from .inks import Ink
-from .multi_tiff import multi_tags
+from .multi_tiff import CMYK_INKS, INK_SET, Tag, ink_tags, multi_tags
 from .names import PROCESS
 from .output_report import file_figures, page_figures, write_report
 from .plates import Array, Plates
@@ -31,9 +31,7 @@ LEVEL = 6
 MAXVALS = (255, 65_535)
 CENTIMETRE = 3
 WHITE_IS_ZERO, BLACK_IS_ZERO = 0, 1
-Tag = tuple[int, Any, int | None, Any, bool]
-ORIENTATION, PAGE_NAME, PAGE_NUMBER, INK_SET, INK_NAMES, NUMBER_OF_INKS = 274, 285, 297, 332, 333, 334
-CMYK_INKS, UPRIGHT = 1, 1
+ORIENTATION, PAGE_NAME, PAGE_NUMBER, UPRIGHT = 274, 285, 297, 1
 
 
 @dataclass(frozen=True)
@@ -152,15 +150,12 @@ def composite_pages(inks: Sequence[Ink], plates: Plates, channels: bool) -> Iter
         for at, ink in enumerate(inks):
             yield spot_page(ink, arrays[at], at, count)
         return
-    ink_set: Tag = (INK_SET, "H", 1, CMYK_INKS, True)
     if channels:
-        names = b"\0".join(ink.colorant for ink in inks)
-        yield TiffPage(arrays, "separated", [ink_set, (INK_NAMES, "s", None, names, True),
-                                             (NUMBER_OF_INKS, "H", 1, count, True)])
+        yield TiffPage(arrays, "separated", ink_tags(inks))
         return
     pages = 1 + count - len(PROCESS)
     number: list[Tag] = [(PAGE_NUMBER, "H", 2, (0, pages), True)] if pages > 1 else []
-    yield TiffPage(arrays[:4], "separated", [ink_set, *number])
+    yield TiffPage(arrays[:4], "separated", [(INK_SET, "H", 1, CMYK_INKS, True), *number])
     for at, ink in enumerate(inks[4:], 4):
         yield spot_page(ink, arrays[at], at - 3, pages)
 

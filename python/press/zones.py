@@ -66,11 +66,6 @@ class Wanted:
     above: tuple[Rect, ...] = ()
     only_zones: bool = False
 
-    @property
-    def page(self) -> Rect:
-        """The page as it is drawn."""
-        return Rect(0, 0, *self.size)
-
 
 class Piece(NamedTuple):
     """A zone of the press room as data: its shape, what holds in it, and why it is there."""
@@ -211,7 +206,7 @@ class Composer:
 
     def cut(self, rect: Rect) -> Rect:
         """A rectangle, as far as traps may be there."""
-        return rect.common(self.wanted.within or self.wanted.page)
+        return rect.common(self.wanted.within or Rect(0, 0, *self.wanted.size))
 
     def thin_zones(self, below: Sequence[Piece]) -> list[Piece]:
         """A zone for each width and each zone below, the widest first. Places are split along the zones below; those

@@ -29,7 +29,7 @@ from .keepaway import page_parameters
 from .layout import (MADE_OF, Layout, image_places, lay_out, pictures_alone, pixels_of, points_of, stroke_rule,
                      strokes_of, trap_box)
 from .origins import Origins, changed_values
-from .rects import Rect
+from .rects import Rect, around
 from .thin import boxes_by_width
 from .zones import Composer, Wanted, Writer, base_rule, first_with_zones, owner_piece, reach, room_beside, state_after
 
@@ -265,8 +265,7 @@ def picture_places(text: bytes) -> list[Rect]:
 
 def rect_of(ring: Subpath) -> Rect:
     """The rectangle around a path, in points."""
-    across, up = [x / SCALE for x, _ in ring], [y / SCALE for _, y in ring]
-    return Rect(min(across), min(up), max(across), max(up))
+    return around([(x / SCALE, y / SCALE) for x, y in ring])
 
 
 def is_hole(ring: Subpath) -> bool:

@@ -1,6 +1,7 @@
 # SPDX-License-Identifier: Apache-2.0
 """A claimed file at work: the whole way of a run in a process of its own, and the command that runs afterwards."""
 import contextlib
+import datetime
 import os
 import re
 import subprocess
@@ -14,20 +15,35 @@ from ..crew import lost_line
 from ..errors import PressError, reason
 from ..events import Event, RunDone
 from ..files import write_text
-from ..job_record import RECORD
+from ..job_record import RECORD, changing_record, read_record
 from ..names import clean
 from ..printing import RunLines, end_line
 from ..runs import RunResult, run
 from .arrivals import fault_in, fault_of
 from .claims import WHY, Claim, Signature, signature
-from .report import PAGES, write_report
 
-OUT, TOLD, FAILED = "out", "told.txt", "failed"
+OUT, TOLD, FAILED, PAGES = "out", "told.txt", "failed", "pages"
+# What the record of a job says of the hot folder that it came through.
+PART = "watch"
 # How a refusal ends that only a warning calls for, and how in a hot folder, to which nobody gave --strict.
 STRICTLY, LENIENTLY = r" \(--strict\)$", " (a warning, and --lenient is not given)"
 # How long a command may run, in seconds.
 COMMAND_SECONDS = 600
 STOPPED = {code for number in tools.STOPS for code in (-number, 128 + number)}
+
+
+def time_text(seconds: float) -> str:
+    """A time as a record has it, from seconds since 1970."""
+    return datetime.datetime.fromtimestamp(seconds).astimezone().isoformat(timespec="seconds")
+
+
+def write_report(claim: Claim, made: str, state: str, why: str) -> None:
+    """Adds the part "watch" to the record of what was made of a file. That of a file that failed is beside its
+    pages."""
+    with changing_record(made) as record:
+        record.update(read_record(os.path.join(made, PAGES)))
+        record[PART] = {"state": state, "folder": claim.hot.path, "name": claim.name, "claimed": time_text(claim.since),
+                        "ended": time_text(datetime.datetime.now().timestamp()), "why": why.splitlines()}
 
 
 def why_of(result: RunResult) -> str:

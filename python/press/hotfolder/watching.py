@@ -9,7 +9,6 @@ from typing import Any
 
 from .. import engine, tools
 from ..errors import PressError, Status, reason
-from ..events import Event
 from ..files import LOCK, is_full, locked, need_folder, refusing, sweep
 from ..folder import read_text
 from .arrivals import Arrivals, is_written
@@ -90,16 +89,12 @@ class Station:
         if os.path.isfile(one.file) and not os.path.islink(one.file) and is_written(one.file):
             self.later.append((time.monotonic() + TICK, one))
             return
-        job = Job(one, lambda event: self.tell(one, event))
+        job = Job(one, lambda event: self.journal.run_event(event, self.hot.path, one.name))
         if job.fault is not None:
             self.end(job)
             return
         job.start()
         self.jobs.append(job)
-
-    def tell(self, one: Claim, event: Event) -> None:
-        """What happens in a run."""
-        self.journal.run_event(event, self.hot.path, one.name)
 
     def end(self, job: Job) -> None:
         """Files a file whose run has ended, or has it made again."""
