@@ -25,6 +25,7 @@ from .strokes import Ink as StrokeInk
 from .strokes import Rule
 from .tables import counts
 
+Marks = npt.NDArray[np.bool_]
 # By how much a density is moved past another one.
 STEP = 0.01
 # A place is refused if more than this share of its edges belongs to other inks.
@@ -156,27 +157,29 @@ def meeting_boxes(planes: Sequence[Any], inks: Sequence[Ink], pair: tuple[int, i
     height, width = planes[0].shape
     pixels = rule.width * resolution / 72
     tile, around = max(LEAST_TILE, int(TILE_WIDTHS * pixels)), int(pixels) + 1
-    boxes, own, foreign = [], 0, 0
+    found: list[tuple[Box, int, int]] = []
     for top in range(0, height, tile):
         rows = [np.ascontiguousarray(planes[at][top:min(height, top + tile + 1)]) for at in kept]
         of_pair = edges_of([rows[kept.index(at)] for at in pair], [steps[kept.index(at)] for at in pair])
         mine = marks_of(of_pair, tile, width)
-        if not mine.any():
-            continue
-        edges = edges_of(rows, steps)
-        everything = marks_of(edges, tile, width)
-        columns = np.flatnonzero(mine.any(axis=0))
-        for column in np.unique(columns // tile):
-            part = np.s_[:, column * tile:(column + 1) * tile]
-            down, across = np.nonzero(mine[part])
-            left = int(column) * tile
-            boxes.append(Box(left + int(across.min()), top + int(down.min()), left + int(across.max()) + 2,
-                             top + int(down.max()) + 2).grown(around))
-            own += int(mine[part].sum())
-            foreign += int((everything[part] & ~mine[part]).sum())
-    return boxes, own, foreign
+        if mine.any():
+            found += tiles_of(mine, marks_of(edges_of(rows, steps), tile, width), tile, top)
+    return ([box.grown(around) for box, _, _ in found], sum(own for _, own, _ in found),
+            sum(foreign for _, _, foreign in found))
 
 
-def marks_of(edges: Edges, rows: int, width: int) -> npt.NDArray[np.bool_]:
+def tiles_of(mine: Marks, everything: Marks, tile: int, top: int) -> Iterator[tuple[Box, int, int]]:
+    """Of each tile of a row of tiles that has edges of two inks: the box around these, how many they are, and how many
+    are those of others."""
+    for column in np.unique(np.flatnonzero(mine.any(axis=0)) // tile):
+        part = np.s_[:, column * tile:(column + 1) * tile]
+        down, across = np.nonzero(mine[part])
+        left = int(column) * tile
+        box = Box(left + int(across.min()), top + int(down.min()), left + int(across.max()) + 2,
+                  top + int(down.max()) + 2)
+        yield box, int(mine[part].sum()), int((everything[part] & ~mine[part]).sum())
+
+
+def marks_of(edges: Edges, rows: int, width: int) -> Marks:
     """The pixels of a tile's own rows that have an edge to the right or below that calls for a trap."""
     return bits.unpacked((edges.right_calls | edges.lower_calls)[:rows], width)
