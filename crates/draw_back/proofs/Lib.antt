@@ -1,5 +1,5 @@
+pub mod DiskLemmas
 pub mod DrawnLemmas
 pub mod LowerLemmas
-pub mod RowLemmas
 pub mod SourceLemmas
 pub mod WindowLemmas

@@ -1,7 +1,9 @@
 -- How a row of tints is lowered by the tints that are offered to its columns.
-use Rattle.std.specs.Prelude.{◌≡◌, ℕ, ◌+◌, ◌<◌, ◌≤◌, true, List, length, slice_index}
-use Rattle.lists.specs.Words.{gap, square}
+use Rattle.std.specs.Prelude.{◌≡◌, ℕ, ◌+◌, ◌-◌, ◌*◌, ◌<◌, ◌≤◌, ◌⊎◌, true, List, length, replicate, slice_index}
+use Rattle.lists.specs.Words.{gap}
+use Rattle.draw_back.specs.declared.window.Window.{Window}
 use Rattle.draw_back.specs.Drawn.{Scene, is_source}
+use Rattle.draw_back.specs.Fields.{Lists, entry}
 
 -- in the columns from..to the row is lowered to the least tint that is offered there, and all else
 -- is as it was
@@ -13,31 +15,51 @@ pub record Lowers (old new : List ℕ) (from to : ℕ) (offers : ℕ → ℕ →
   pub greatest : (x b : ℕ) → b ≤ slice_index old x → ((v : ℕ) → offers x v → b ≤ v)
       → b ≤ slice_index new x
 
--- v is the tint that stands so many columns to the left of x, if it is not covered
-pub record IsOfLeft (tints marks : List ℕ) (step x v : ℕ) : Type 0 where
+-- v is the tint of a row in the column of place i of a window, if it is not covered
+pub record IsOfPlace (tints marks : List ℕ) (from halo i v : ℕ) : Type 0 where
   pub column : ℕ
-  pub there : column + step ≡ x
+  pub there : column + halo ≡ from + i
   pub inside : column < length tints
   pub free : slice_index marks column ≡ 0
   pub is : v ≡ slice_index tints column
 
--- v is the tint that stands so many columns to the right of x, if it is not covered
-pub record IsOfRight (tints marks : List ℕ) (step x v : ℕ) : Type 0 where
+-- v is such a tint of one of these rows
+pub record IsOfRows (lists : Lists) (from halo : ℕ) (is_row : ℕ → Type 0) (i v : ℕ) : Type 0 where
   pub column : ℕ
-  pub there : column ≡ x + step
-  pub inside : column < length tints
-  pub free : slice_index marks column ≡ 0
-  pub is : v ≡ slice_index tints column
+  pub row : ℕ
+  pub there : column + halo ≡ from + i
+  pub inside : column < lists.wide
+  pub on_page : row < lists.tall
+  pub in_rows : is_row row
+  pub free : entry lists.marks lists.wide column row ≡ 0
+  pub is : v ≡ entry lists.tints lists.wide column row
 
--- v is a tint of the row, not covered, fewer than so many columns from x and near it, where the row
--- adds so much to the square of the distance
-pub record IsOfRow (tints marks : List ℕ) (across limit steps x v : ℕ) : Type 0 where
+-- v is what a window has so many columns to the left or to the right of column x
+pub record IsOfSide (best : List ℕ) (from halo step x v : ℕ) : Type 0 where
+  pub place : ℕ
+  pub there : (place + from + step ≡ x + halo) ⊎ (place + from ≡ x + halo + step)
+  pub is : v ≡ slice_index best place
+
+-- how many places a window has
+abbrev pub places_of : Window → ℕ
+places_of window = window.to - window.from + 2 * window.halo
+
+-- a window has for each of its columns the least tint of the rows fewer than `grown` away from row y
+-- that is not covered, and the greatest number of 16 bits where there is none
+pub record IsGrown (lists : Lists) (window : Window) (y grown : ℕ) (best : List ℕ) : Type 0 where
+  pub long : length best ≡ 544
+  pub lowers : Lowers (replicate 544 65535) best 0 (places_of window)
+      (IsOfRows lists window.from window.halo (λ k. gap y k < grown))
+
+-- v is the tint of a source of the pixel in column x of row y, at least so many columns away
+pub record IsOfFar (s : Scene) (y step x v : ℕ) : Type 0 where
   pub column : ℕ
-  pub inside : column < length tints
-  pub close : gap x column < steps
-  pub near : square (gap x column) + across ≤ limit
-  pub free : slice_index marks column ≡ 0
-  pub is : v ≡ slice_index tints column
+  pub row : ℕ
+  pub inside : column < s.wide
+  pub on_page : row < s.tall
+  pub away : step ≤ gap x column
+  pub source : is_source s x y column row ≡ true
+  pub is : v ≡ s.tint_at column row
 
 -- v is the tint of a source of the pixel in column x of row y, in a row above row k
 pub record IsOfSource (s : Scene) (y k x v : ℕ) : Type 0 where

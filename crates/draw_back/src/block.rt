@@ -1,46 +1,13 @@
 // A block of columns of one row: its pixels lowered by all sources, and those restored that stay.
 
-ghost use Rattle.std.specs.Prelude.{◌≡◌, ◌+◌, ◌<◌, ◌≤◌, ◌==◌, ℕ, length, slice_index, if◌then◌else◌};
-ghost use Rattle.draw_back.specs.Fields.{entry, kept, scene_of};
-ghost use Rattle.draw_back.specs.Lowers.{Lowers, IsOfSource};
+ghost use Rattle.std.specs.Prelude.{◌≡◌, ◌<◌, ◌≤◌, ◌==◌, ℕ, length, slice_index, if◌then◌else◌};
+ghost use Rattle.draw_back.specs.Fields.{entry, kept};
 
+use crate::disk::lower_by_field;
 use crate::edge::has_edge;
 use crate::field::Field;
-use crate::lower::lower_by_row;
 use crate::reach::Reach;
-
-/// The columns of a block.
-#[derive(Clone, Copy, Drop)]
-pub(crate) struct Span {
-    pub(crate) from: usize,
-    pub(crate) to: usize,
-    ghost ordered: { from ≤ to },
-}
-
-/// Lowers the columns of row y by all sources of the field.
-fn lower_by_field(field: &Field, reach: Reach, y: usize, span: Span, out: &mut [u16])
-    requires row { y < field.now.tall }
-    requires out { length out.old ≡ field.now.wide }
-    requires span { span.to ≤ field.now.wide }
-    ensures { Lowers out.old out.new span.from span.to
-        (IsOfSource (scene_of field.now reach.limit) y field.now.tall) }
-{
-    let radius = reach.radius as usize;
-    let height = field.height();
-    let last = (y + radius + 1).min(height);
-    for k in y.saturating_sub(radius)..last {
-        let rows = k.abs_diff(y) as u32;
-        lower_by_row(
-            out,
-            field.tints(k),
-            field.marks(k),
-            span.from,
-            span.to,
-            rows,
-            reach,
-        );
-    }
-}
+use crate::window::Span;
 
 /// Puts the old tint back into each column whose mark is not 2.
 fn restore(out: &mut [u16], tints: &[u16], marks: &[u8], span: Span)

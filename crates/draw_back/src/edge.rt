@@ -4,9 +4,9 @@ ghost use Rattle.std.specs.Prelude.{◌≡◌, ◌≢◌, ◌+◌, ◌-◌, ◌<
 ghost use Rattle.draw_back.specs.Drawn.{drawn};
 ghost use Rattle.draw_back.specs.Fields.{entry, scene_of};
 
-use crate::block::Span;
 use crate::field::Field;
 use crate::reach::Reach;
+use crate::window::Span;
 
 /// Whether some of the entries `from..to` is this one.
 fn holds(list: &[u8], from: usize, to: usize, value: u8) -> bool
@@ -20,14 +20,16 @@ fn holds(list: &[u8], from: usize, to: usize, value: u8) -> bool
     found
 }
 
-/// Whether some of the tints `from..to` is above 0.
-fn has_ink(tints: &[u16], from: usize, to: usize) -> bool
-    requires { to ≤ length tints.now }
-    ensures { result ≡ false → (x : ℕ) → from ≤ x → x < to → slice_index tints.now x ≡ 0 }
+/// Whether some of the pixels `from..to` may change and has ink.
+fn may_change(tints: &[u16], marks: &[u8], from: usize, to: usize) -> bool
+    requires tints { to ≤ length tints.now }
+    requires marks { to ≤ length marks.now }
+    ensures { result ≡ false → (x : ℕ) → from ≤ x → x < to → slice_index marks.now x ≡ 2
+        → slice_index tints.now x ≡ 0 }
 {
     let mut found = false;
     for x in from..to {
-        found |= tints[x] > 0;
+        found |= (marks[x] == 2) & (tints[x] > 0);
     }
     found
 }
@@ -62,7 +64,6 @@ pub(crate) fn has_edge(field: &Field, reach: Reach, y: usize, span: Span) -> boo
         → entry field.now.marks field.now.wide x y ≡ 2
         → drawn (scene_of field.now reach.limit) x y ≡ entry field.now.tints field.now.wide x y }
 {
-    holds(field.marks(y), span.from, span.to, 2)
-        && has_ink(field.tints(y), span.from, span.to)
+    may_change(field.tints(y), field.marks(y), span.from, span.to)
         && is_free_near(field, reach, y, span)
 }

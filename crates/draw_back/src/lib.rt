@@ -2,12 +2,14 @@
 #![tactic(auto)]
 
 mod block;
+mod disk;
 mod edge;
 mod field;
 pub mod laws;
 mod lower;
 mod reach;
 mod row;
+mod window;
 
 pub use field::Field;
 pub use reach::Reach;

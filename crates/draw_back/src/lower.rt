@@ -1,11 +1,12 @@
-// A row of tints lowered by those of one row of pixels that are not covered.
+// The least tints of a window of columns, and a block of a row lowered to those beside it.
+//
+// Column j has the place i of a window with `j + halo = from + i`. Places off the page keep what they have.
 
-ghost use Rattle.std.specs.Prelude.{◌≡◌, ◌+◌, ◌<◌, ◌≤◌, ◌==◌, min, length, if◌then◌else◌};
-ghost use Rattle.draw_back.specs.Lowers.{Lowers, IsOfLeft, IsOfRight, IsOfRow};
-ghost use Rattle.lists.specs.Words.{square};
-ghost use Rattle.page_model.specs.Limits.{most_reach};
+ghost use Rattle.std.specs.Prelude.{◌≡◌, ◌+◌, ◌*◌, ◌-◌, ◌<◌, ◌≤◌, ◌==◌, ◌^◌, ℕ, min, length, slice_index, if◌then◌else◌};
+ghost use Rattle.draw_back.specs.Lowers.{Lowers, IsOfPlace, IsOfSide, places_of};
+ghost use Rattle.page_model.specs.Limits.{most_sheet_side};
 
-use crate::reach::Reach;
+use crate::window::Window;
 
 /// A tint lowered to that of a source, where the source's mark says that it is not covered.
 fn lowered(tint: u16, source: u16, mark: u8) -> u16
@@ -14,54 +15,44 @@ fn lowered(tint: u16, source: u16, mark: u8) -> u16
     if mark == 0 { tint.min(source) } else { tint }
 }
 
-/// Lowers the columns `from..to` by the tint that is `step` columns to the left of each.
-fn lower_left(out: &mut [u16], tints: &[u16], marks: &[u8], from: usize, to: usize, step: usize)
-    requires tints { length tints.now ≡ length out.old }
-    requires marks { length marks.now ≡ length out.old }
-    requires span { from ≤ to }
-    requires to { to ≤ length out.old }
-    ensures { Lowers out.old out.new from to (IsOfLeft tints.now marks.now step) }
+/// Lowers the places of a window by the tints of a row that are not covered.
+pub(crate) fn lower_places(best: &mut [u16], tints: &[u16], marks: &[u8], window: Window)
+    requires tints { length tints.now ≤ most_sheet_side }
+    requires marks { length marks.now ≡ length tints.now }
+    requires span { window.to ≤ length tints.now }
+    requires best { places_of window ≤ length best.old }
+    ensures { Lowers best.old best.new 0 (places_of window)
+        (IsOfPlace tints.now marks.now window.from window.halo) }
 {
-    for x in from.max(step).min(to)..to {
-        out[x] = lowered(out[x], tints[x - step], marks[x - step]);
+    let Window { from, to, halo } = window;
+    let last = (to + halo).min(tints.len()) + halo - from;
+    for i in halo.saturating_sub(from)..last {
+        let j = from + i - halo;
+        best[i] = lowered(best[i], tints[j], marks[j]);
     }
 }
 
-/// Lowers the columns `from..to` by the tint that is `step` columns to the right of each.
-fn lower_right(out: &mut [u16], tints: &[u16], marks: &[u8], from: usize, to: usize, step: usize)
-    requires tints { length tints.now ≡ length out.old }
-    requires marks { length marks.now ≡ length out.old }
-    requires span { from ≤ to }
-    requires to { to ≤ length out.old }
-    ensures { Lowers out.old out.new from to (IsOfRight tints.now marks.now step) }
+/// The least of a tint and of those to its left and right.
+fn least_of(tint: u16, left: u16, right: u16) -> u16
+    ensures value { result ≡ min (min tint left) right }
+    ensures small { tint < 2 ^ 16 }
 {
-    for x in from..to.min(out.len().saturating_sub(step)).max(from) {
-        out[x] = lowered(out[x], tints[x + step], marks[x + step]);
-    }
+    tint.min(left).min(right)
 }
 
-/// Lowers the columns `from..to` by all tints of a row that is `rows` rows away, as far as the reach goes.
-pub(crate) fn lower_by_row(
-    out: &mut [u16],
-    tints: &[u16],
-    marks: &[u8],
-    from: usize,
-    to: usize,
-    rows: u32,
-    reach: Reach,
-)
-    requires tints { length tints.now ≡ length out.old }
-    requires marks { length marks.now ≡ length out.old }
-    requires span { from ≤ to }
-    requires to { to ≤ length out.old }
-    requires rows { rows ≤ most_reach }
-    ensures { Lowers out.old out.new from to
-        (IsOfRow tints.now marks.now (square rows) reach.limit (reach.radius + 1)) }
+/// Lowers the columns of a block by the tints that are `step` columns to the left and to the right of each.
+pub(crate) fn lower_sides(out: &mut [u16], best: &[u16], window: Window, step: usize)
+    requires span { window.to ≤ length out.old }
+    requires narrow { length out.old ≤ most_sheet_side }
+    requires step { step ≤ window.halo }
+    requires best { places_of window ≤ length best.now }
+    ensures lowers { Lowers out.old out.new window.from window.to
+        (IsOfSide best.now window.from window.halo step) }
+    ensures small { (x : ℕ) → window.from ≤ x → x < window.to → slice_index out.old x < 2 ^ 16 }
 {
-    for step in 0..reach.radius + 1 {
-        if step * step + rows * rows <= reach.limit {
-            lower_left(out, tints, marks, from, to, step as usize);
-            lower_right(out, tints, marks, from, to, step as usize);
-        }
+    let Window { from, to, halo } = window;
+    for x in from..to {
+        let i = x - from + halo;
+        out[x] = least_of(out[x], best[i - step], best[i + step]);
     }
 }

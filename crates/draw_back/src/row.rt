@@ -2,9 +2,10 @@ ghost use Rattle.std.specs.Prelude.{◌≡◌, ◌≢◌, ◌+◌, ◌*◌, ◌<
 ghost use Rattle.page_model.specs.Limits.{most_sheet_side};
 ghost use Rattle.draw_back.specs.Fields.{entry, kept};
 
-use crate::block::{Span, draw_block};
+use crate::block::draw_block;
 use crate::field::Field;
 use crate::reach::Reach;
+use crate::window::Span;
 
 /// The columns of a block.
 const BLOCK: usize = 32;

@@ -1,5 +1,0 @@
-use Rattle.draw_back.specs.Lowers.{Lowers, IsOfLeft}
-use Rattle.draw_back.proofs.lower.lower_left.Given as goal
-
-abbrev pub invariant-loop-x : goal.invariant-loop-x
-invariant-loop-x l = Lowers l.initial.out l.out l.from l.x (IsOfLeft l.tints l.marks l.step)
