@@ -1,9 +1,12 @@
 # SPDX-License-Identifier: Apache-2.0
 """Makes a page as a shop has it, in four inks: a heading, a photograph, discs on a fade, small type, and a good deal of paper.
 
-The regions take their shares of the page, and what stands in them keeps its size, so that pages of any sides hold about as
+    bench/shop_page.py FOLDER [--rich-black]       writes its plates and its job into the folder, A4 at 600 dpi
+
+With --rich-black the type and the discs that are black have cyan, magenta and yellow under it. The regions take their shares of the page, and what stands in them keeps its size, so that pages of any sides hold about as
 many edges for each sample. The same sides, seed and maxval give the same plates.
 """
+import argparse
 import contextlib
 import math
 import os
@@ -11,6 +14,8 @@ import random
 
 INKS = ("Cyan", "Magenta", "Yellow", "Black")
 PIXELS_PER_INCH = 600
+A4 = (4961, 7016)
+BLACK, RICH_BLACK = (0, 0, 0, 255), (153, 128, 102, 255)
 # Of the height and width of the page: top, left, bottom, right.
 HEADING = (0.04, 0.04, 0.14, 0.96)
 PHOTOGRAPH = (0.17, 0.04, 0.52, 0.58)
@@ -110,15 +115,16 @@ class Discs(Region):
     """Discs in rows and columns, a little out of line, each of which knocks out what lies under it."""
 
     STEP = 190
-    KINDS = ((0, 255, 0, 0), (255, 0, 0, 0), (0, 0, 255, 0), (0, 200, 220, 0), (0, 0, 0, 255), (200, 0, 255, 0))
+    KINDS = ((0, 255, 0, 0), (255, 0, 0, 0), (0, 0, 255, 0), (0, 200, 220, 0), BLACK, (200, 0, 255, 0))
 
-    def __init__(self, shares, width, height, chance):
+    def __init__(self, shares, width, height, chance, black):
         super().__init__(shares, width, height)
         self.discs = []
         for y in range(self.top, self.bottom, self.STEP):
             for x in range(self.left, self.right, self.STEP):
                 place = (x + chance.randrange(self.STEP), y + chance.randrange(self.STEP))
-                self.discs.append((*place, chance.randrange(40, 130), chance.choice(self.KINDS)))
+                radius, inks = chance.randrange(40, 130), chance.choice(self.KINDS)
+                self.discs.append((*place, radius, black if inks == BLACK else inks))
 
     def paint(self, rows, y):
         for middle_x, middle_y, radius, inks in self.discs:
@@ -148,7 +154,7 @@ class Type(Region):
                 self.fill(rows, start + first * self.square, start + last * self.square, self.inks)
 
 
-def regions_of(width, height, seed):
+def regions_of(width, height, seed, black):
     """What is painted, in this order."""
     chance = random.Random(seed)
     sides = (width, height)
@@ -157,10 +163,10 @@ def regions_of(width, height, seed):
         Type(HEADING, *sides, chance, 16, (0, 242, 0, 0)),
         Photograph(PHOTOGRAPH, *sides, chance),
         Ground(DISCS, *sides, (200, 0, 20, 0), (60, 0, 220, 0)),
-        Discs(DISCS, *sides, chance),
-        Type(SMALL_TYPE, *sides, chance, 6, (0, 0, 0, 255)),
+        Discs(DISCS, *sides, chance, black),
+        Type(SMALL_TYPE, *sides, chance, 6, black),
         Ground(BAND, *sides, (0, 255, 30, 0), (0, 40, 0, 0), down=True),
-        Discs(BAND, *sides, chance),
+        Discs(BAND, *sides, chance, black),
         Type(BAND, *sides, chance, 10, (230, 0, 40, 0)),
     ]
 
@@ -189,9 +195,9 @@ def painted_row(regions, width, y):
     return rows
 
 
-def make_plates(folder, width, height, seed, maxval):
+def make_plates(folder, width, height, seed, maxval, black=BLACK):
     """Writes a plate for each ink, and gives their paths by the inks' names."""
-    regions, bytes_of = regions_of(width, height, seed), tables(maxval)
+    regions, bytes_of = regions_of(width, height, seed, black), tables(maxval)
     paths = {name: os.path.join(folder, name + ".pgm") for name in INKS}
     with contextlib.ExitStack() as stack:
         files = [stack.enter_context(open(path, "wb")) for path in paths.values()]
@@ -230,3 +236,18 @@ def job(width, height, trap_width):
             + path([(0, middle), (width, middle), (width, height), (0, height)], height)
             + "<< /SlidingTrapLimit 0.9 /TrapColorScaling 1 >> settrapparams\n"
             + path(hexagon, height) + "showpage\n").encode()
+
+
+def main():
+    parser = argparse.ArgumentParser(description="Makes a page as a shop has it.")
+    parser.add_argument("folder")
+    parser.add_argument("--rich-black", action="store_true", help="cyan, magenta and yellow under what is black")
+    asked = parser.parse_args()
+    os.makedirs(asked.folder, exist_ok=True)
+    make_plates(asked.folder, *A4, 1, 255, RICH_BLACK if asked.rich_black else BLACK)
+    with open(os.path.join(asked.folder, "page.job"), "wb") as file:
+        file.write(job(*A4, 0.25))
+
+
+if __name__ == "__main__":
+    main()
