@@ -13,9 +13,9 @@ pub(crate) fn count_changed(old: &[u16], new: &[u16]) -> u64
 {
     let mut count = 0;
     for k in 0..old.len() {
-        count += u64::from(new[k] != old[k]);
+        count += u32::from(new[k] != old[k]);
     }
-    count
+    u64::from(count)
 }
 
 /// How many entries are not 0.
@@ -25,7 +25,7 @@ pub(crate) fn count_covered(marks: &[u8]) -> u64
 {
     let mut count = 0;
     for k in 0..marks.len() {
-        count += u64::from(marks[k] != 0);
+        count += u32::from(marks[k] != 0);
     }
-    count
+    u64::from(count)
 }

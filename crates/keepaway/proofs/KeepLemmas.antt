@@ -59,6 +59,17 @@ kept_not page rich c p none =
     stays (is_drawn page rich.spared c) rest (drawn (scene page rich c) p.x p.y) (tint page c p) none
     ∙ ap (λ (b : Bool). if b then drawn (scene page rich c) p.x p.y else tint page c p) (sym (and_three (is_drawn page rich.spared c) (covered page rich.limit p) (is_open page p) (not (is_black_ink page (zone_of page p) c))))
 
+-- an ink that is black at a pixel keeps its tint there
+black_by : (drawn cover clear black : Bool) (new old : ℕ) → black ≡ true → old ≡ (if drawn && cover && clear && not black then new else old)
+black_by true true true true new old e = refl
+black_by true true true false new old e = absurd (cc)
+black_by true true false black new old e = refl
+black_by true false clear black new old e = refl
+black_by false cover clear black new old e = refl
+
+pub kept_black : (page : PageParts) (rich : RichBlack) (c : ℕ) (p : At) → is_black_ink page (zone_of page p) c ≡ true → tint page c p ≡ kept page rich c p
+kept_black page rich c p black = black_by (is_drawn page rich.spared c) (covered page rich.limit p) (is_open page p) (is_black_ink page (zone_of page p) c) (drawn (scene page rich c) p.x p.y) (tint page c p) black
+
 -- the two parts of a test
 parts : (a b : Bool) → (a && b) ≡ true → (a ≡ true) × (b ≡ true)
 parts true true e = (refl, refl)

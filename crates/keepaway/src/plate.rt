@@ -8,7 +8,7 @@ ghost use Rattle.keepaway.specs.Keepaway.{is_black_ink as black_ink_spec, is_dra
 ghost use Rattle.keepaway.specs.Rows.{HasKept, IsCover, IsRow, Reaches};
 
 use crate::cover::Cover;
-use crate::levels::is_black_ink;
+use crate::levels::{is_black_everywhere, is_black_ink, is_black_somewhere};
 use crate::parts::RichBlack;
 use crate::rows::{put_tints, row_of, tints_of, tints_of_row};
 use draw_back::laws::window_law;
@@ -57,7 +57,7 @@ fn one_of(first: bool, one: u16, other: u16) -> u16
 }
 
 /// Puts the old tint back wherever plate c's ink is black in the pixel's zone.
-fn spare_blacks(page: &Page, c: u32, y: u32, zones: &[u8], tints: &[u16], out: &mut [u16])
+fn spare_row(page: &Page, c: u32, y: u32, zones: &[u8], tints: &[u16], out: &mut [u16])
     requires plate { c < plates page.now }
     requires row { y < height page.now }
     requires zones { AreRowZones page.now y zones.now }
@@ -72,6 +72,23 @@ fn spare_blacks(page: &Page, c: u32, y: u32, zones: &[u8], tints: &[u16], out: &
         zone_law(page, At { x: x as u32, y });
         let black = is_black_ink(page, u32::from(zones[x]), c);
         out[x] = one_of(black, tints[x], out[x]);
+    }
+}
+
+/// Does the same, without a look at the row where the ink is black in no zone.
+fn spare_blacks(page: &Page, c: u32, y: u32, zones: &[u8], tints: &[u16], out: &mut [u16])
+    requires plate { c < plates page.now }
+    requires row { y < height page.now }
+    requires zones { AreRowZones page.now y zones.now }
+    requires tints { length tints.now ≡ width page.now }
+    requires out { length out.old ≡ width page.now }
+    ensures { (x : ℕ) → x < width page.now → slice_index out.new x
+        ≡ (if black_ink_spec page.now (zone_of page.now (record { x = x; y = y })) c
+        then slice_index tints.now x else slice_index out.old x) }
+{
+    let _valid = page.plates();
+    if is_black_somewhere(page, c) {
+        spare_row(page, c, y, zones, tints, out);
     }
 }
 
@@ -95,6 +112,35 @@ fn draw_page_row(page: &Page, rich: &RichBlack, cover: &Cover, c: u32, y: u32, o
     spare_blacks(page, c, y, zones, tints_of_row(page, c, y), out);
 }
 
+/// Writes the old tints of row y of plate c.
+fn copy_row(page: &Page, c: u32, y: u32, out: &mut [u16])
+    requires plate { c < plates page.now }
+    requires row { y < height page.now }
+    requires out { length out.old ≡ width page.now }
+    ensures { (x : ℕ) → x < width page.now
+        → slice_index out.new x ≡ tint page.now c (record { x = x; y = y }) }
+{
+    out.copy_from_slice(tints_of_row(page, c, y));
+}
+
+/// Writes the new tints of row y of a plate for which the rule runs: the old ones where its ink is black in each zone.
+fn write_drawn_row(page: &Page, rich: &RichBlack, cover: &Cover, c: u32, y: u32, out: &mut [u16])
+    requires reach { Reaches page.now rich.now }
+    requires cover { IsCover page.now rich.now.limit cover.now }
+    requires plate { c < plates page.now }
+    requires drawn { drawn_spec page.now rich.now.spared c ≡ true }
+    requires row { y < height page.now }
+    requires out { length out.old ≡ width page.now }
+    ensures { IsRow page.now (kept page.now rich.now c) y out.new }
+{
+    let _valid = page.plates();
+    if is_black_everywhere(page, c) {
+        copy_row(page, c, y, out);
+    } else {
+        draw_page_row(page, rich, cover, c, y, out);
+    }
+}
+
 /// Writes the new tints of row y of plate c.
 fn write_row(page: &Page, rich: &RichBlack, cover: &Cover, c: u32, y: u32, out: &mut [u16])
     requires reach { Reaches page.now rich.now }
@@ -105,7 +151,7 @@ fn write_row(page: &Page, rich: &RichBlack, cover: &Cover, c: u32, y: u32, out: 
     ensures { IsRow page.now (kept page.now rich.now c) y out.new }
 {
     if is_drawn(page, &rich.spared, c) {
-        draw_page_row(page, rich, cover, c, y, out);
+        write_drawn_row(page, rich, cover, c, y, out);
     } else {
         out.copy_from_slice(tints_of_row(page, c, y));
     }

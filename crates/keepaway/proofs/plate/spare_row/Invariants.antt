@@ -1,7 +1,7 @@
 use Rattle.std.proofs.Common.{◌≡◌, ◌<◌, ◌≤◌, ℕ, slice_index, if◌then◌else◌}
 use Rattle.page_model.specs.Zones.{zone_of}
 use Rattle.keepaway.specs.Keepaway.{is_black_ink}
-use Rattle.keepaway.proofs.plate.spare_blacks.Given as goal
+use Rattle.keepaway.proofs.plate.spare_row.Given as goal
 
 abbrev pub invariant-loop-x : goal.invariant-loop-x
 invariant-loop-x l = record {
