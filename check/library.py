@@ -5,7 +5,8 @@
 Each case is a page by the call of a page, and then a window of that page by the call of a window, with memory of its own, guards
 before and after each buffer, and arguments of which some do not fit: the status, the text, its length, the samples, the gaps between
 rows and the guards have to be as the slow program says. Of a window it looks at the whole page, and takes what lies in the core.
-Where the arguments fit, the package's own calls have to give the same. A few calls that were worked out by hand come first. The
+Where the arguments fit, the package's own calls have to give the same; what a report and an error by an open job say in numbers has to be what their
+text says, the error by the one kind of library/kinds.txt that fits it. A few calls that were worked out by hand come first. The
 library is the one that TRAP_LIBRARY names, or library/out/libtrap.so.1.
 """
 import array
@@ -339,6 +340,27 @@ def is_same_sheet(sheet, call, stands):
         for c in range(len(names)) for y in range(call.height) for x in range(call.width))
 
 
+def forms():
+    """The forms of the lines in library/kinds.txt, each with the number of its kind."""
+    with open(os.path.join(TOP, "library", "kinds.txt"), encoding="utf-8") as file:
+        rows = [line.rstrip("\n").split("\t") for line in file if line[0] != "#"]
+    for number, _, *line in rows:
+        if line and ".." not in line[0]:
+            yield int(number), re.compile(re.sub("PLATE|ZONE|NAME|OFFSET", lambda field: rf"(?P<{field[0].lower()}>\w+)", line[0]))
+
+
+FORMS = list(forms())
+
+
+def is_said(error):
+    """Whether the numbers of an error by an open job are what its line says: one form of a kind fits the line, and each field has what
+    stands in it."""
+    fitting = [(number, fits.groupdict()) for number, form in FORMS if (fits := form.fullmatch(error.line))]
+    fields = {"plate": error.plate, "zone": error.zone, "name": error.parameter, "offset": error.place}
+    named = {name: str(field) for name, field in fields.items() if field is not None}
+    return isinstance(error, trapping.TrapError) and fitting == [(error.code, named)] and error.status == error.code // 100
+
+
 def window_by_package(call, stands, opened=None):
     """What the package's call gives, with the job's bytes or an open job."""
     trap = opened.trap_window if opened else functools.partial(trapping.trap_window, call.job)
@@ -347,8 +369,10 @@ def window_by_package(call, stands, opened=None):
         told = trap(call.names.decode("latin-1").split("\n"), stack, sheet=stands[:2], at=stands[2:4], core=stands[4:],
                     maxval=call.maxval, width=call.width, height=call.height, step=call.step)
     except trapping.Refusal as refusal:
-        return Answer(refusal.status, refusal.line + "\n", list(stack))
-    return Answer(0, told.text, list(stack))
+        return Answer(refusal.status if not opened or is_said(refusal) else -1, refusal.line + "\n", list(stack))
+    read = trapping.Report(told.text)
+    are_counts = (told.zones, told.edges, told.changed) == (read.zones, read.edges, read.changed)
+    return Answer(0 if are_counts else -1, told.text, list(stack))
 
 
 def refuses_empty_core(call, stands):
@@ -376,7 +400,7 @@ def halo_faults(sheet):
         try:
             told = call(sheet.job)
         except trapping.Refusal as refusal:
-            told = refusal.line
+            told = refusal.line if call is trapping.halo or is_said(refusal) else f"another kind than {refusal.line}"
         if told != answer:
             yield "%s, which gives %s," % (name, told)
 

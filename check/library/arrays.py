@@ -101,6 +101,15 @@ def raises(error, call):
     raise AssertionError("no %s" % error.__name__)
 
 
+def raised(call):
+    """The error of a call over an open job."""
+    try:
+        call()
+    except trapping.TrapError as error:
+        return error
+    raise AssertionError("no error")
+
+
 def wrong_arguments():
     assert window().edges == 0
     for changed in ({"core": (0, 0, 40)}, {"core": ()}, {"sheet": (40, 40, 0, 0), "at": ()}, {"core": (0, 0, 0, 40)},
@@ -121,19 +130,28 @@ def trap_ctypes():
 
 
 def open_jobs():
-    """A job that is opened traps as its bytes do, also from four threads in turn; once it is closed it does nothing."""
-    def trapped(_):
+    """A job that is opened traps as its bytes do, also from four threads in turn, and once it is shared from both at once; once it is
+    closed it does nothing."""
+    def trapped(k):
         stack = numpy.stack(BEFORE)
-        report = opened.trap_window(INKS, stack, sheet=(400, 300), core=(0, 0, 400, 300), maxval=255)
+        report = (other if k % 2 else opened).trap_window(INKS, stack, sheet=(400, 300), core=(0, 0, 400, 300), maxval=255)
+        assert report.edges == 3662 and report.zones[1] == (60000, 4604) and report.changed["Black"] == 1464
         return report.text == REPORT and (stack == numpy.stack(AFTER)).all()
 
-    with trapping.OpenJob(JOB) as opened, ThreadPoolExecutor(4) as pool:
-        assert opened.halo() == trapping.halo(JOB)
+    with trapping.OpenJob(JOB) as opened, opened.share() as other, ThreadPoolExecutor(4) as pool:
+        assert opened.halo() == trapping.halo(JOB) and opened.info() == other.info()
+        assert opened.info() == (300, opened.halo(), 1, opened.info().reach, 3, 4) and opened.info().reach <= 2 * opened.halo()
         assert all(pool.map(trapped, range(8)))
     opened.close()
     raises(trapping.Refusal, opened.halo)
-    raises(trapping.Refusal, lambda: trapped(0))
-    raises(trapping.Refusal, lambda: trapping.OpenJob(b"<<"))
+    for call in (lambda: trapped(0), opened.info, opened.share):
+        assert raised(call).code == trapping.Kind.HANDLE
+    error = raised(lambda: trapping.OpenJob(JOB.replace(b"/TrapWidth 0.75", b"/TrapWidth 0.00")))
+    for told in (error, pickle.loads(pickle.dumps(error))):
+        assert (told.code, told.kind, told.parameter) == (trapping.Kind.OUT_OF_RANGE, "OutOfRange", "TrapWidth")
+        assert (told.status, told.plate, told.zone, f"job: OutOfRange TrapWidth at {told.place}") == (3, None, None, told.line)
+    error = raised(lambda: trapping.OpenJob(JOB).trap_window(["Cyan", "Rust"], bytearray(8), sheet=(4, 1), core=(0, 0, 4, 1), width=4, height=1))
+    assert (error.code, error.plate, error.place) == (trapping.Kind.NO_DETAILS, 1, None)
     raises(TypeError, lambda: trapping.OpenJob(5))
 
 

@@ -3,8 +3,9 @@
 """Compares the two hand-written declarations of the library with what the crate exports: boundary.py.
 
 The exports are the `extern "C"` functions of crates/trap_c/src/lib.rt. library/trap.h has to declare each of them, and
-no other, with the same arguments in the same order, of the same widths and under the same names; struct trap_place has
-to have the fields of the crate's Place; and the ctypes table of python/trapping has to hand over the same arguments.
+no other, with the same arguments in the same order, of the same widths and under the same names; its structs of numbers
+have to have the fields and the sizes of the crate's; and the ctypes table of python/trapping has to hand over the same
+arguments.
 What is compared is text: that the compiler passes a slice as a pointer and then a number of elements is the toolchain's
 promise. The library is the one that TRAP_LIBRARY names, or library/out/libtrap.so.1.
 """
@@ -14,7 +15,7 @@ import re
 import sys
 from dataclasses import dataclass
 from pathlib import Path
-from typing import Dict, List, Tuple
+from typing import Any, Dict, List, Tuple
 
 TOP = Path(__file__).resolve().parents[2]
 os.environ.setdefault("TRAP_LIBRARY", str(TOP / "library/out/libtrap.so.1"))
@@ -31,6 +32,9 @@ IN_C: Dict[str, Tuple[str, ...]] = {
     "u32": ("uint32_t {}",),
     "&Place": ("const struct trap_place *{}",),
     "&mut JobHandle": ("struct trap_job *{}",),
+    "&mut Info": ("struct trap_info *{}",),
+    "&mut ErrorRecord": ("struct trap_error *{}",),
+    "&mut ReportRecord": ("struct trap_report *{}",),
     "&mut usize": ("size_t *{}",),
     "&mut u32": ("uint32_t *{}",),
 }
@@ -44,9 +48,18 @@ IN_PYTHON: Dict[str, Tuple[object, ...]] = {
     "uint32_t ": (ctypes.c_uint32,),
     "const struct trap_place *": (ctypes.POINTER(_library.Place),),
     "struct trap_job *": (ctypes.POINTER(_library.Handle),),
+    "struct trap_info *": (ctypes.POINTER(_library.Info),),
+    "struct trap_error *": (ctypes.POINTER(_library.Error),),
+    "struct trap_report *": (ctypes.POINTER(_library.Counts),),
     "size_t *": (ctypes.POINTER(ctypes.c_size_t),),
     "uint32_t *": (ctypes.POINTER(ctypes.c_uint32),),
 }
+# The structs of numbers: the crate's file and name, the name in C, and the struct of Python.
+STRUCTS = (("place.rt", "Place", "trap_place", _library.Place), ("info.rt", "Info", "trap_info", _library.Info),
+           ("error_record.rt", "ErrorRecord", "trap_error", _library.Error),
+           ("report_record.rt", "ReportRecord", "trap_report", _library.Counts))
+# A field: its name, the type of its numbers, and how many they are.
+Field = Tuple[str, str, int]
 RESULTS = {"u8": "trap_status", "u32": "uint32_t", "": "void"}
 RESULTS_IN_PYTHON = {"trap_status": ctypes.c_uint8, "uint32_t": ctypes.c_uint32, "void": None}
 
@@ -101,26 +114,53 @@ def declared() -> Dict[str, Declared]:
     return found
 
 
-def place_of_crate() -> List[str]:
-    """The fields of the crate's Place, each a u32."""
-    text = (TOP / "crates/trap_c/src/place.rt").read_text(encoding="utf-8")
-    body = re.search(r"#\[repr\(C\)\]\n[^{]*pub struct Place \{(.*?)\}", text, re.DOTALL)
-    assert body, "crates/trap_c/src/place.rt: no struct Place with #[repr(C)]"
-    fields = re.findall(r"pub (\w+): (\w+),", body.group(1))
-    assert all(kind == "u32" for _, kind in fields), "a field of Place is no u32"
-    return [name for name, _ in fields]
+def fields_of_crate(file: str, name: str) -> List[Field]:
+    """The fields of a struct of the crate with #[repr(C)], each a number or an array of numbers."""
+    text = (TOP / "crates/trap_c/src" / file).read_text(encoding="utf-8")
+    body = re.search(rf"#\[repr\(C\)\]\n[^{{]*pub struct {name} \{{(.*?)\}}", text, re.DOTALL)
+    assert body, f"crates/trap_c/src/{file}: no struct {name} with #[repr(C)]"
+    found = re.findall(r"pub (\w+): (?:\[(\w+); (\w+)\]|(\w+)),", body.group(1))
+    return [(field, kind or item, number(text, count)) for field, item, count, kind in found]
 
 
-def place_of_header() -> List[str]:
-    """The fields of struct trap_place, each a uint32_t."""
-    body = re.search(r"struct trap_place \{(.*?)\};", header(), re.DOTALL)
-    assert body, "library/trap.h: no struct trap_place"
-    names: List[str] = []
+def number(text: str, count: str) -> int:
+    """How many items an array has, by a number or by a constant of the file; 1 for no array."""
+    if not count:
+        return 1
+    return int(count) if count.isdigit() else int(re.search(rf"const {count}: usize = (\d+);", text)[1])  # type: ignore[index]
+
+
+def fields_of_header(name: str) -> List[Field]:
+    """The fields of a struct of trap.h, with the crate's names of their types."""
+    body = re.search(rf"struct {name} \{{(.*?)\}};", header(), re.DOTALL)
+    assert body, f"library/trap.h: no struct {name}"
+    found: List[Field] = []
     for line in filter(None, (in_words(it) for it in body.group(1).split(";"))):
         kind, _, listed = line.partition(" ")
-        assert kind == "uint32_t", f"a field of struct trap_place is a {kind}"
-        names += listed.split(", ")
-    return names
+        for one in listed.split(", "):
+            field, _, count = one.rstrip("]").partition("[")
+            found.append((field, kind.replace("uint", "u").replace("_t", ""), int(count or 1)))
+    return found
+
+
+def fields_of_python(kind: Any) -> List[Field]:
+    """The fields of a struct of ctypes."""
+    known = {ctypes.c_uint32: "u32", ctypes.c_uint64: "u64"}
+    return [(field, known[getattr(of, "_type_", None) if hasattr(of, "_length_") else of], getattr(of, "_length_", 1))
+            for field, of in kind._fields_]
+
+
+def struct_faults() -> List[str]:
+    """How the structs of numbers differ between the crate, trap.h and Python, and what their sizes are."""
+    faults = []
+    for file, name, struct, kind in STRUCTS:
+        crate, stands, handed = fields_of_crate(file, name), fields_of_header(struct), fields_of_python(kind)
+        if not crate == stands == handed:
+            faults.append(f"{name} is {crate} in the crate, {stands} in trap.h, {handed} in Python")
+        size = re.search(r"const \w+_SIZE: u32 = (\d+);", (TOP / "crates/trap_c/src" / file).read_text(encoding="utf-8"))
+        if size and int(size[1]) != ctypes.sizeof(kind):
+            faults.append(f"{name} has {size[1]} bytes in the crate, and {ctypes.sizeof(kind)} in C")
+    return faults
 
 
 def struct_of_crate(file: str, name: str) -> str:
@@ -142,6 +182,20 @@ def handle_faults() -> List[str]:
     if is_same and fields == [("inner", ctypes.c_void_p), ("is_open", ctypes.c_uint8)]:
         return []
     return [f"a handle is {crate} in the crate, {stands} in trap.h, {fields} in Python"]
+
+
+def kind_faults() -> List[str]:
+    """How the kinds and parameters of library/kinds.txt differ from the crate's definitions: each name has its number there, by the
+    word of its line, and no other."""
+    spec = (TOP / "crates/trap_c/specs/ErrorRecords.antt").read_text(encoding="utf-8")
+    stands = sorted((int(number), word) for word, number in re.findall(
+        r"^(?:kind_of_\w+|kind_of|number_of_key) \(?(\w+)(?: \w+)*\)? = (\d+)$", spec, re.M))
+    renamed = {"Null": None, "FileTooManySamples": "TooManySamples", "TooManySamples": "PageTooLarge",
+               "OutOfMemory": "Memory", "ReadFault": "Read", "WriteFault": "Write"}
+    lines = (TOP / "library/kinds.txt").read_text(encoding="utf-8").splitlines()
+    wanted = [(int(number), renamed.get(name, name)) for number, name, *_ in (line.split("\t") for line in lines if not line.startswith("#"))]
+    wanted = sorted((number, name) for number, name in wanted if name)
+    return [f"{number} is {name} in the crate or in library/kinds.txt, and not in both" for number, name in set(stands) ^ set(wanted)]
 
 
 def version_of_crate() -> int:
@@ -184,9 +238,7 @@ def main() -> int:
     faults += [f"the ctypes table has {name}, which is no export" for name in tabled - made.keys()]
     if "typedef uint8_t trap_status;" not in header():
         faults.append("trap.h: trap_status is no uint8_t")
-    fields = [name for name, _ in _library.Place._fields_]
-    if not place_of_crate() == place_of_header() == fields:
-        faults.append(f"Place is {place_of_crate()} in the crate, {place_of_header()} in trap.h, {fields} in Python")
+    faults += struct_faults() + kind_faults()
     if f"#define LIBTRAP_VERSION {version_of_crate()} " not in (TOP / "library/trap.h").read_text(encoding="utf-8"):
         faults.append(f"trap.h has another LIBTRAP_VERSION than {version_of_crate()}, which trap_version answers")
     faults += handle_faults()

@@ -441,13 +441,48 @@ static int call_window(const struct lent *l) {
                        l->text_len);
 }
 
+/* Whether the counts are those of the text. */
+static int are_counts_of(const struct trap_report *report, const char *text, size_t len) {
+  char told[LIBTRAP_TEXT_SIZE], *at = told;
+  for (unsigned z = 0; z < report->zones; z++)
+    at += sprintf(at, "zone %u samples %llu changed %llu\n", z, (unsigned long long)report->zone_samples[z],
+                  (unsigned long long)report->zone_changed[z]);
+  at += sprintf(at, "edges %llu\n", (unsigned long long)report->edges);
+  const char *from = memchr(text, 'z', len), *plates;
+  if (!from || (size_t)(text + len - from) < (size_t)(at - told) || memcmp(from, told, (size_t)(at - told))) return 0;
+  plates = from + (at - told);
+  for (unsigned c = 0; c < report->planes; c++) {
+    const char *end = memchr(plates, '\n', (size_t)(text + len - plates)), *word = end;
+    while (word && word[-1] != ' ') word--;
+    if (!end || strtoull(word, 0, 10) != report->plane_changed[c]) return 0;
+    plates = end + 1;
+  }
+  return report->size == sizeof *report && text + len - plates == 4 && !memcmp(plates, "end\n", 4);
+}
+
+/* Whether no count is told, or those of the text are, as far as it fits: what a call's structs say has to agree with its status. */
+static int agrees(const struct lent *l, int got, const struct trap_report *report, const struct trap_error *error) {
+  static const struct trap_report none = LIBTRAP_NO_REPORT;
+  if (error->status != (uint32_t)got || error->kind / 100 != (uint32_t)got || error->size != sizeof *error || error->rows) return 0;
+  if (got != LIBTRAP_DONE) return !memcmp(report, &none, sizeof none);
+  return *l->text_len > l->text_size || are_counts_of(report, l->text, *l->text_len);
+}
+
+/* A call by the open job. */
 static int call_opened(const struct lent *l, struct trap_job *open) {
+  struct trap_report report = LIBTRAP_NO_REPORT;
+  struct trap_error error = LIBTRAP_NO_ERROR;
   const struct asked *a = l->a;
   uint32_t w = a->width, h = a->height, step = a->step, maxval = (uint32_t)a->maxval;
   size_t ns = strlen(a->names);
+  int got;
   if (a->bytes == 1)
-    return trap_open_window8(open, l->names, ns, l->samples, a->count, w, h, step, maxval, l->place, l->text, l->text_size, l->text_len);
-  return trap_open_window16(open, l->names, ns, l->samples, a->count, w, h, step, maxval, l->place, l->text, l->text_size, l->text_len);
+    got = trap_open_window8(open, l->names, ns, l->samples, a->count, w, h, step, maxval, l->place, l->text, l->text_size, l->text_len,
+                            &report, &error);
+  else
+    got = trap_open_window16(open, l->names, ns, l->samples, a->count, w, h, step, maxval, l->place, l->text, l->text_size, l->text_len,
+                             &report, &error);
+  return agrees(l, got, &report, &error) ? got : -1;
 }
 
 /* Makes the call, and compares all that it did with the status, the text and the samples that are wanted. */
@@ -500,7 +535,7 @@ static int is_halo_right(struct thread *t) {
   t->calls++, t->done++;
   uint32_t other = 0;
   size_t other_len = 9;
-  got = got ? got : trap_open(job, p->job_size, &t->open, text, 64, &other_len);
+  got = got ? got : trap_open(job, p->job_size, &t->open, text, 64, &other_len, 0);
   got = got ? got : trap_open_halo(&t->open, &other);
   int is_told = halo == halo_of(p) && other == halo && !text_len && !other_len;
   if (got == LIBTRAP_DONE && is_told && is_around(&t->text) && is_around(&t->job)) return 1;

@@ -47,17 +47,27 @@ static void want(const char *call, trap_status status, trap_status wanted) {
 
 /* The exports for an open job. One whose bytes have a fault is not opened. */
 static void call_opened(size_t size, const char *listed, size_t count, trap_status wanted) {
-  struct trap_job handle = LIBTRAP_NO_JOB;
+  struct trap_job handle = LIBTRAP_NO_JOB, other = LIBTRAP_NO_JOB;
   trap_status then = wanted == LIBTRAP_DONE ? LIBTRAP_DONE : LIBTRAP_CALL;
+  struct trap_info info = LIBTRAP_NO_INFO;
+  struct trap_error error = LIBTRAP_NO_ERROR;
+  struct trap_report report = LIBTRAP_NO_REPORT;
   size_t len;
   uint32_t halo;
-  want("trap_open", trap_open(job, size, &handle, text, sizeof text, &len), wanted);
+  want("trap_open", trap_open(job, size, &handle, text, sizeof text, &len, &error), wanted);
   want("trap_open_halo", trap_open_halo(&handle, &halo), then);
+  want("trap_job_info", trap_job_info(&handle, &info, &error), then);
   want("trap_open_window8",
-       trap_open_window8(&handle, listed, count, bytes, SAMPLES, WIDTH, HEIGHT, WIDTH, 255, &place, text, sizeof text, &len), then);
+       trap_open_window8(&handle, listed, count, bytes, SAMPLES, WIDTH, HEIGHT, WIDTH, 255, &place, text, sizeof text, &len, &report,
+                         &error),
+       then);
   want("trap_open_window16",
-       trap_open_window16(&handle, listed, count, words, SAMPLES, WIDTH, HEIGHT, WIDTH, 255, &place, text, sizeof text, &len), then);
+       trap_open_window16(&handle, listed, count, words, SAMPLES, WIDTH, HEIGHT, WIDTH, 255, &place, text, sizeof text, &len, &report,
+                         &error),
+       then);
+  want("trap_share", trap_share(&handle, &other, &error), then);
   trap_close(&handle);
+  trap_close(&other);
 }
 
 /* All exports, with so many bytes of the job; cut short it has a fault. */
@@ -79,6 +89,7 @@ static void *call_all(void *given) {
   call_opened(size, listed, count, wanted);
   want("trap_version", trap_version() == LIBTRAP_VERSION ? LIBTRAP_DONE : LIBTRAP_CALL, LIBTRAP_DONE);
   want("trap_cpu_supported", trap_cpu_supported() ? LIBTRAP_DONE : LIBTRAP_CALL, LIBTRAP_DONE);
+  want("trap_kind_name", strcmp(trap_kind_name(LIBTRAP_KIND_FAR), "Far") ? LIBTRAP_CALL : LIBTRAP_DONE, LIBTRAP_DONE);
   want("trap_strerror", strcmp(trap_strerror(LIBTRAP_MEMORY), "out of memory") ? LIBTRAP_CALL : LIBTRAP_DONE, LIBTRAP_DONE);
   return NULL;
 }

@@ -34,6 +34,13 @@ static void expect_number(const char *what, long long found, long long wanted) {
   printf("%s: %lld in place of %lld\n", what, found, wanted);
 }
 
+/* A fault of the arguments, which names nothing else. */
+static void expect_error(const char *what, const struct trap_error *error, uint32_t kind) {
+  const struct trap_error wanted = {sizeof wanted, LIBTRAP_CALL, kind, LIBTRAP_NO_NUMBER, LIBTRAP_NO_NUMBER, LIBTRAP_NO_NUMBER,
+                                    LIBTRAP_NO_OFFSET, 0};
+  expect_number(what, memcmp(error, &wanted, sizeof wanted), 0);
+}
+
 /* A job at this resolution, with this after its ink details. */
 static const char *job_of(unsigned dpi, const char *rest) {
   static char job[TEXT];
@@ -169,6 +176,8 @@ static void nulls(void) {
   const char *job = job_of(600, "");
   uint8_t samples[TALL * WIDE] = {0};
   struct trap_job handle = LIBTRAP_NO_JOB;
+  struct trap_error error = LIBTRAP_NO_ERROR;
+  struct trap_report report = LIBTRAP_NO_REPORT;
   struct trap_place place = {WIDE, TALL, 0, 0, 0, 0, WIDE, TALL};
   uint32_t halo = 0;
   size_t size = strlen(job), len = 0;
@@ -180,11 +189,21 @@ static void nulls(void) {
   expect("no place", trap_window8(job, size, "Black", 5, samples, sizeof samples, WIDE, TALL, WIDE, 255, 0, text, LIBTRAP_TEXT_SIZE,
                                   &text_len), LIBTRAP_CALL, "call: Null\n");
   expect("no halo", trap_halo(job, size, 0, text, LIBTRAP_TEXT_SIZE, &text_len), LIBTRAP_CALL, "call: Null\n");
-  expect("no handle", trap_open(job, size, 0, text, LIBTRAP_TEXT_SIZE, &text_len), LIBTRAP_CALL, "call: Null\n");
+  expect("no handle", trap_open(job, size, 0, text, LIBTRAP_TEXT_SIZE, &text_len, &error), LIBTRAP_CALL, "call: Null\n");
+  expect_error("no handle", &error, LIBTRAP_KIND_NULL);
   expect("no handle of a window", trap_open_window8(0, "Black", 5, samples, sizeof samples, WIDE, TALL, WIDE, 255, &place, text,
-                                                    LIBTRAP_TEXT_SIZE, &text_len), LIBTRAP_CALL, "call: Null\n");
+                                                    LIBTRAP_TEXT_SIZE, &text_len, 0, 0), LIBTRAP_CALL, "call: Null\n");
   expect("a handle that is not open", trap_open_window8(&handle, "?", 1, samples, 1, 0, 0, 0, 0, &place, text, LIBTRAP_TEXT_SIZE,
-                                                        &text_len), LIBTRAP_CALL, "call: Handle\n");
+                                                        &text_len, 0, &error), LIBTRAP_CALL, "call: Handle\n");
+  expect_error("a handle that is not open", &error, LIBTRAP_KIND_HANDLE);
+  error.size++;
+  expect("an error of another size", trap_open_window8(&handle, "?", 1, samples, 1, 0, 0, 0, 0, &place, text, LIBTRAP_TEXT_SIZE,
+                                                       &text_len, 0, &error), LIBTRAP_CALL, "call: Size\n");
+  expect_number("it is left", error.size-- == sizeof error + 1 && error.kind == LIBTRAP_KIND_HANDLE, 1);
+  report.size--;
+  expect("a report of another size", trap_open_window8(&handle, "?", 1, samples, 1, 0, 0, 0, 0, &place, text, LIBTRAP_TEXT_SIZE,
+                                                       &text_len, &report, &error), LIBTRAP_CALL, "call: Size\n");
+  expect_error("a report of another size", &error, LIBTRAP_KIND_SIZE);
   expect_number("no text", trap_halo(job, size, &halo, 0, 9, &len), LIBTRAP_CALL);
   expect_number("the length of its line", (long long)len, 11);
   expect_number("no length", trap_halo(job, size, &halo, text, LIBTRAP_TEXT_SIZE, 0), LIBTRAP_CALL);

@@ -41,7 +41,7 @@ static const char *const told = job, *const listed = names;
 static trap_status by_words(struct answer *answer, const struct trap_place *place, struct trap_job *handle) {
   if (handle)
     return trap_open_window16(handle, listed, sizeof names - 1, answer->samples, SAMPLES, WIDTH, HEIGHT, WIDTH, 255, place,
-                              answer->text, sizeof answer->text, &answer->text_len);
+                              answer->text, sizeof answer->text, &answer->text_len, 0, 0);
   if (!place)
     return trap_planes16(told, sizeof job - 1, listed, sizeof names - 1, answer->samples, SAMPLES, WIDTH, HEIGHT, WIDTH, 255,
                          answer->text, sizeof answer->text, &answer->text_len);
@@ -54,7 +54,7 @@ static trap_status by_bytes(struct answer *answer, const struct trap_place *plac
   for (int k = 0; k < SAMPLES; k++) bytes[k] = (uint8_t)answer->samples[k];
   trap_status status =
       handle  ? trap_open_window8(handle, listed, sizeof names - 1, bytes, SAMPLES, WIDTH, HEIGHT, WIDTH, 255, place, answer->text,
-                                  sizeof answer->text, &answer->text_len)
+                                  sizeof answer->text, &answer->text_len, 0, 0)
       : place ? trap_window8(told, sizeof job - 1, listed, sizeof names - 1, bytes, SAMPLES, WIDTH, HEIGHT, WIDTH, 255, place,
                            answer->text, sizeof answer->text, &answer->text_len)
             : trap_planes8(told, sizeof job - 1, listed, sizeof names - 1, bytes, SAMPLES, WIDTH, HEIGHT, WIDTH, 255, answer->text,
@@ -80,7 +80,7 @@ static void trap_page(struct answer *answer, int page, struct trap_job *handle) 
 static void trap_pages(struct answer *answers, int first, int step) {
   struct trap_job handle = LIBTRAP_NO_JOB;
   struct answer *answer = &answers[first];
-  if (trap_open(told, sizeof job - 1, &handle, answer->text, sizeof answer->text, &answer->text_len)) return;
+  if (trap_open(told, sizeof job - 1, &handle, answer->text, sizeof answer->text, &answer->text_len, 0)) return;
   for (int page = first; page < pages; page += step) trap_page(&answers[page], page, &handle);
   trap_close(&handle);
 }

@@ -86,7 +86,7 @@ static trap_status trap_band(struct sheet *sheet, unsigned top) {
   struct trap_place place = {sheet->width, sheet->height, 0, rows.first, 0, rows.core, sheet->width, rows.core_count};
   trap_status status = trap_open_window8(&sheet->job, sheet->names, strlen(sheet->names), sheet->window,
                                          (size_t)sheet->plates * rows.count * sheet->width, sheet->width, rows.count, sheet->width,
-                                         sheet->maxval, &place, sheet->text, sizeof sheet->text - 1, &sheet->text_len);
+                                         sheet->maxval, &place, sheet->text, sizeof sheet->text - 1, &sheet->text_len, 0, 0);
   if (status != LIBTRAP_DONE) return status;
   write_core(sheet, rows);
   sheet->text[sheet->text_len] = 0;
@@ -109,7 +109,7 @@ static trap_status trap_sheet(struct sheet *sheet) {
 /* Opens the job, and asks for its halo. */
 static trap_status open_job(struct sheet *sheet, const char *name) {
   struct bytes job = whole(name);
-  trap_status status = trap_open(job.at, job.size, &sheet->job, sheet->text, sizeof sheet->text, &sheet->text_len);
+  trap_status status = trap_open(job.at, job.size, &sheet->job, sheet->text, sizeof sheet->text, &sheet->text_len, 0);
   free(job.at);
   return status == LIBTRAP_DONE ? trap_open_halo(&sheet->job, &sheet->halo) : status;
 }

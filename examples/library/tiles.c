@@ -53,7 +53,7 @@ static trap_status trap_tile(struct share *share, unsigned left, unsigned top) {
   struct trap_place place = {page->width, page->height, x.first, y.first, x.core, y.core, x.core_count, y.core_count};
   trap_status status = trap_open_window8(&share->job, work->names, strlen(work->names), window.samples, window.count, window.width,
                                          window.height, window.width, window.maxval, &place, share->text, sizeof share->text - 1,
-                                         &share->text_len);
+                                         &share->text_len, 0, 0);
   for (int c = 0; c < work->plates && status == LIBTRAP_DONE; c++)
     for (unsigned row = 0; row < y.core_count; row++)
       memcpy(at(&work->trapped, c, top + row, left), at(&window, c, y.core + row, x.core), x.core_count);
@@ -89,8 +89,9 @@ static trap_status open_jobs(struct share *shares, const char *name, unsigned *h
   for (int k = 0; k < THREADS && status == LIBTRAP_DONE; k++) {
     struct share *share = &shares[k];
     share->job = (struct trap_job)LIBTRAP_NO_JOB;
-    status = trap_open(job.at, job.size, &share->job, share->text, sizeof share->text, &share->text_len);
-    if (status != LIBTRAP_DONE) fwrite(share->text, 1, share->text_len, stderr);
+    status = k ? trap_share(&shares[0].job, &share->job, 0)
+               : trap_open(job.at, job.size, &share->job, share->text, sizeof share->text, &share->text_len, 0);
+    if (!k && status != LIBTRAP_DONE) fwrite(share->text, 1, share->text_len, stderr);
   }
   free(job.at);
   return status == LIBTRAP_DONE ? trap_open_halo(&shares[0].job, halo) : status;

@@ -310,7 +310,7 @@ def test_commands_end_well(reader: Reader, built: None, document: str) -> None:
 def test_calls_in_c_compile(tmp_path: Path) -> None:
     """The calls of docs/LIBRARY.md, within a function that has what they speak of."""
     texts = [block.text for block in blocks_of("docs/LIBRARY.md") if block.kind == "c"]
-    assert len(texts) == 3
+    assert len(texts) == 4
     body = "\n".join(texts).replace("#include <trap.h>\n", "")
     (tmp_path / "call.c").write_text(
         "#include <stdio.h>\n#include <string.h>\n#include <trap.h>\n"

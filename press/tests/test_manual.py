@@ -60,5 +60,5 @@ def test_functions_are_those_of_the_header() -> None:
              for kind, name, arguments in re.findall(r"^\.Ft (.*)\n\.Fo (\w+)\n((?:\.Fa .*\n)+)\.Fc$", page, re.M)}
     shown |= {name: (kind.strip('"'), re.findall(r'"([^"]*)"', arguments) or [arguments])
               for kind, name, arguments in re.findall(r"^\.Ft (.*)\n\.Fn (\w+) (.*)$", page, re.M)}
-    assert shown == declared and len(shown) == 13
+    assert shown == declared and len(shown) == 16
     assert set(re.findall(r"^\.Nm (\w+)", page, re.M)) == set(declared)

@@ -15,12 +15,13 @@ memoryview. 0 is no ink, `maxval` is full ink. Rows run from the top, samples in
 Any number of threads may trap at once, each its own planes: the GIL is released during the call.
 """
 from ._arguments import Job
+from ._kinds import Kind
 from ._library import library_path
-from ._open import OpenJob
+from ._open import JobInfo, OpenJob
 from ._planes import Samples
-from ._refusal import Refusal
+from ._refusal import Refusal, TrapError
 from ._report import Report, Zone
 from ._trap import halo, library_version, trap, trap_stack, trap_window
 
-__all__ = ["Job", "OpenJob", "Refusal", "Report", "Samples", "Zone", "halo", "library_path", "library_version", "trap",
-           "trap_stack", "trap_window"]
+__all__ = ["Job", "JobInfo", "Kind", "OpenJob", "Refusal", "Report", "Samples", "TrapError", "Zone", "halo", "library_path",
+           "library_version", "trap", "trap_stack", "trap_window"]

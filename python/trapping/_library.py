@@ -25,17 +25,50 @@ class Handle(ctypes.Structure):
     _fields_ = [("inner", ctypes.c_void_p), ("is_open", ctypes.c_uint8)]
 
 
+class Info(ctypes.Structure):
+    """The figures of an open job: struct trap_info of trap.h. One that is made here has its size."""
+
+    _fields_ = [(name, ctypes.c_uint32) for name in ("size", "resolution", "halo", "corner_step", "reach", "zones")] + [
+        ("inks", ctypes.c_uint64)]
+
+    def __init__(self) -> None:
+        super().__init__(size=ctypes.sizeof(Info))
+
+
+class Error(ctypes.Structure):
+    """What a call over an open job says of its error: struct trap_error of trap.h. One that is made here has its size."""
+
+    _fields_ = [(name, ctypes.c_uint32) for name in ("size", "status", "kind", "plate", "zone", "name")] + [
+        ("offset", ctypes.c_uint64), ("rows", ctypes.c_uint64)]
+
+    def __init__(self) -> None:
+        super().__init__(size=ctypes.sizeof(Error))
+
+
+class Counts(ctypes.Structure):
+    """The counts of a report: struct trap_report of trap.h. One that is made here has its size."""
+
+    _fields_ = [(name, ctypes.c_uint32) for name in ("size", "zones", "planes")] + [
+        ("edges", ctypes.c_uint64), ("zone_samples", ctypes.c_uint64 * 251), ("zone_changed", ctypes.c_uint64 * 251),
+        ("plane_changed", ctypes.c_uint64 * 16)]
+
+    def __init__(self) -> None:
+        super().__init__(size=ctypes.sizeof(Counts))
+
+
 _window = (*_page, ctypes.POINTER(Place), *_text)
-_open_window = (ctypes.POINTER(Handle), *_window[2:])
+_open_window = (ctypes.POINTER(Handle), *_window[2:], ctypes.POINTER(Counts), ctypes.POINTER(Error))
 _ARGUMENTS = {
     "trap_planes8": (*_page, *_text),
     "trap_planes16": (*_page, *_text),
     "trap_window8": _window,
     "trap_window16": _window,
     "trap_halo": (*_bytes, ctypes.POINTER(ctypes.c_uint32), *_text),
-    "trap_open": (*_bytes, ctypes.POINTER(Handle), *_text),
+    "trap_open": (*_bytes, ctypes.POINTER(Handle), *_text, ctypes.POINTER(Error)),
+    "trap_share": (ctypes.POINTER(Handle), ctypes.POINTER(Handle), ctypes.POINTER(Error)),
     "trap_close": (ctypes.POINTER(Handle),),
     "trap_open_halo": (ctypes.POINTER(Handle), ctypes.POINTER(ctypes.c_uint32)),
+    "trap_job_info": (ctypes.POINTER(Handle), ctypes.POINTER(Info), ctypes.POINTER(Error)),
     "trap_open_window8": _open_window,
     "trap_open_window16": _open_window,
     "trap_version": (),

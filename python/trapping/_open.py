@@ -3,15 +3,35 @@
 import ctypes
 import threading
 from types import TracebackType
-from typing import Optional, Sequence, Tuple, Type
+from typing import NamedTuple, Optional, Sequence, Tuple, Type
 
 from ._arguments import Job, job_bytes
 from ._arguments import place as place_of
 from ._calls import call, text_of
-from ._library import Handle, export
+from ._library import Error, Handle, Info, export
 from ._planes import Samples, stack_of
-from ._refusal import CALL, Refusal
+from ._kinds import Kind
+from ._refusal import TrapError, error_of
 from ._report import Report
+
+
+class JobInfo(NamedTuple):
+    """The figures of a job.
+
+    resolution   in dpi; 0 if the job has none, and then it traps nothing
+    halo         the rows and columns that a window needs around its core
+    corner_step  a window's left and lower sides lie at multiples of so many samples, from the sheet's lower left corner
+    reach        how far the widest trap extends from an edge, in half-samples
+    zones        the zones of a report: what no settrapzone covers, and one for each settrapzone
+    inks         the inks that the job names
+    """
+
+    resolution: int
+    halo: int
+    corner_step: int
+    reach: int
+    zones: int
+    inks: int
 
 
 class OpenJob:
@@ -21,14 +41,14 @@ class OpenJob:
             halo = opened.halo()
             report = opened.trap_window(names, window, sheet=(24094, 17008), at=(0, 480), core=(0, 4, 2048, 512))
 
-    One thread at a time is in a call: the others wait. So threads that are to trap in parallel open a job each. Raises
-    Refusal for a fault of the job, and, in each call after `close`, for a job that is not open.
+    One thread at a time is in a call: the others wait. So threads that are to trap in parallel have one each, by `share`. Raises
+    TrapError for a fault of the job, and, in each call after `close`, for a job that is not open.
     """
 
     def __init__(self, job: Job) -> None:
         self._handle, self._turn = Handle(), threading.Lock()
         data = job_bytes(job)
-        text_of("trap_open", data, len(data), ctypes.byref(self._handle))
+        text_of("trap_open", data, len(data), ctypes.byref(self._handle), said=Error())
 
     def halo(self) -> int:
         """The rows and columns that a window needs around its core, as `halo` gives them for the job's bytes."""
@@ -36,8 +56,17 @@ class OpenJob:
         with self._turn:
             status = export("trap_open_halo")(ctypes.byref(self._handle), ctypes.byref(number))
         if status:
-            raise Refusal(CALL, "call: Handle")
+            raise TrapError(Kind.HANDLE, "call: Handle")
         return number.value
+
+    def info(self) -> JobInfo:
+        """The figures of the job."""
+        found, said = Info(), Error()
+        with self._turn:
+            status = export("trap_job_info")(ctypes.byref(self._handle), ctypes.byref(found), ctypes.byref(said))
+        if status:
+            raise error_of(said)
+        return JobInfo(*(getattr(found, name) for name in JobInfo._fields))
 
     def trap_window(self, names: Sequence[str], window: Samples, *, sheet: Tuple[int, int],
                     at: Tuple[int, int] = (0, 0), core: Tuple[int, int, int, int], maxval: Optional[int] = None,
@@ -47,7 +76,16 @@ class OpenJob:
         memory, width, height, step = stack_of(window, width, height, step)
         with self._turn:
             return call(f"trap_open_window{8 * memory.size}", (ctypes.byref(self._handle),), names, memory.address,
-                        memory.size, (width, height, step), maxval, memory.sample_count(), ctypes.byref(place))
+                        memory.size, (width, height, step), maxval, memory.sample_count(), ctypes.byref(place), is_open=True)
+
+    def share(self) -> "OpenJob":
+        """The same job once more, for another thread: it is copied, and not read again. Each is closed by itself."""
+        other, said = type(self).__new__(type(self)), Error()
+        other._handle, other._turn = Handle(), threading.Lock()
+        with self._turn:
+            if export("trap_share")(ctypes.byref(self._handle), ctypes.byref(other._handle), ctypes.byref(said)):
+                raise error_of(said)
+        return other
 
     def close(self) -> None:
         """Closes the job and frees its memory. Does nothing if it is closed."""

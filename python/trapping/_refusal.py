@@ -1,7 +1,11 @@
 # SPDX-License-Identifier: Apache-2.0
 """What is raised if a call fails."""
+import ctypes
 import re
 from typing import Any, Optional, Tuple
+
+from ._kinds import PARAMETERS, Kind
+from ._library import Error
 
 CALL, JOB, PAGE, MEMORY = 2, 3, 4, 7
 _SUBJECTS = {CALL: "call", JOB: "job", PAGE: "page", MEMORY: "memory"}
@@ -38,3 +42,38 @@ class Refusal(Exception):
 
     def __reduce__(self) -> Tuple[Any, ...]:  # so that it goes through a pool of processes
         return type(self), (self.status, self.line)
+
+
+class TrapError(Refusal):
+    """A call over an open job that failed, in the numbers that the library gives beside its line.
+
+    code       the Kind of the error, such as Kind.OUT_OF_RANGE
+    plate      the plane that the line names, counted from 0, or None
+    zone       the zone that it names, or None
+    parameter  the trapping parameter that it names, such as "TrapWidth", or None
+
+    Its line, status, subject, kind, detail and place are those of a Refusal.
+    """
+
+    code: Kind
+    plate: Optional[int]
+    zone: Optional[int]
+    parameter: Optional[str]
+
+    def __init__(self, code: int, line: str, plate: Optional[int] = None, zone: Optional[int] = None,
+                 parameter: Optional[str] = None, place: Optional[int] = None) -> None:
+        super().__init__(code // 100, line)
+        self.code, self.kind = Kind(code), Kind(code).word()
+        self.plate, self.zone, self.parameter, self.place = plate, zone, parameter, place
+
+    def __reduce__(self) -> Tuple[Any, ...]:
+        return type(self), (int(self.code), self.line, self.plate, self.zone, self.parameter, self.place)
+
+
+def error_of(said: Error, line: str = "") -> TrapError:
+    """The error that the library says in numbers; of a call without a text also its line."""
+    none = ctypes.c_uint32(-1).value
+    plate, zone = (None if number == none else number for number in (said.plate, said.zone))
+    place = None if said.offset == ctypes.c_uint64(-1).value else said.offset
+    argument = "out of memory" if said.kind == Kind.OUT_OF_MEMORY else f"call: {Kind(said.kind).word()}"
+    return TrapError(said.kind, line or argument, plate, zone, PARAMETERS.get(said.name), place)

@@ -1,7 +1,9 @@
 # SPDX-License-Identifier: Apache-2.0
 """The report of a page that was trapped."""
 import re
-from typing import Dict, List, NamedTuple
+from typing import Dict, List, NamedTuple, Sequence
+
+from ._library import Counts
 
 
 class Zone(NamedTuple):
@@ -34,6 +36,15 @@ class Report:
             raise ValueError("no report: %r" % text)
         self.edges = int(edges[1])
         self.changed = {name: int(count) for name, count in re.findall(r"^plate (\S+) changed (\d+)$", text, re.M)}
+
+    @classmethod
+    def of(cls, text: str, counts: Counts, names: Sequence[str]) -> "Report":
+        """The report of these counts: of a call that gives them beside the text."""
+        report = cls.__new__(cls)
+        report.text, report.edges = text, counts.edges
+        report.zones = list(map(Zone, counts.zone_samples[:counts.zones], counts.zone_changed[:counts.zones]))
+        report.changed = dict(zip(names, counts.plane_changed[:counts.planes]))
+        return report
 
     def __str__(self) -> str:
         return self.text

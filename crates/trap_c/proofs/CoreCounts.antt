@@ -14,6 +14,7 @@ use Rattle.sheet_geometry.specs.Areas.{changes_in, changes_plate, edges_at, lies
 use Rattle.sheet_engine.specs.declared.counts.SheetCounts.{SheetCounts}
 use Rattle.sheet_engine.specs.Growth.{AddsArea, Grows, HasWorkspace, HasWorkspaces, LiesOn}
 use Rattle.trap_c.specs.Cores.{AreNone, HasCounts, core_counts, sum_over}
+use Rattle.trap_c.specs.ReportRecords.{AreFew}
 use Rattle.trap_report.specs.Report.{AreCounts}
 use Rattle.lists.proofs.ListBelow.{length-list_below}
 
@@ -62,3 +63,13 @@ core_counts_fit page core counts e = record {
   zone_changed = ap (λ (k : Counts). length k.zone_changed) e ∙ length-list_below (λ z. sum_over core (changes_in traps z page)) (length page.zones);
   plate_changed = ap (λ (k : Counts). length k.plate_changed) e ∙ length-list_below (λ c. sum_over core (changes_plate traps c page)) (plates page);
 }
+
+-- and few enough for the arrays of C's struct
+pub few_counts : (page : PageParts) (core : Cut) (counts : Counts) → IsPage page → counts ≡ core_counts page core → AreFew counts
+few_counts page core counts is e =
+    let fit = core_counts_fit page core counts e in
+    record {
+      zone_samples = omega (arith, fit.zone_samples, is.parts.few_zones);
+      zone_changed = omega (arith, fit.zone_changed, is.parts.few_zones);
+      plate_changed = omega (arith, fit.plate_changed, is.parts.few_plates);
+    }

@@ -2,6 +2,7 @@
 mod Above
 mod Parts
 mod Sizes
+mod CornerSteps
 mod Rows
 mod PageLemmas
 mod Runs

@@ -8,6 +8,7 @@ use Rattle.std.proofs.lemmas.List.{get_or-map, length-map}
 use Rattle.std.proofs.lemmas.List.Sums.{fails_before_first, sum_by-cons}
 use Rattle.job_reader.specs.declared.job.Job.{Job}
 use Rattle.job_reader.specs.InRange.{IsJob}
+use Rattle.page_model.specs.declared.parts.Ink.{Ink}
 use Rattle.page_model.specs.declared.parts.Vertex.{Vertex}
 use Rattle.page_model.specs.declared.parts.Zone.{Zone}
 use Rattle.page_model.specs.Conditions.{IsVertex, IsZone, begins}
@@ -90,3 +91,28 @@ moved_in_range layout place job is =
         details = is.details;
       };
     }
+
+-- zones that are moved by nothing are the same
+same_vertex : (v : Vertex) → moved_vertex 0 0 v ≡ v
+same_vertex v =
+    let across : (moved_vertex 0 0 v).x ≡ v.x = grind arith in
+    let up : (moved_vertex 0 0 v).y ≡ v.y = grind arith in
+    λ i. record { x = across i; y = up i; starts = v.starts }
+
+same_path : (path : List Vertex) → map (moved_vertex 0 0) path ≡ path
+same_path [] = refl
+same_path (v ∷ vs) = λ i. same_vertex v i ∷ same_path vs i
+
+same_zone : (zone : Zone) → moved_zone 0 0 zone ≡ zone
+same_zone zone = λ i. record { params = zone.params; path = same_path zone.path i; limits = zone.limits }
+
+pub same_zones : (zones : List Zone) → map (moved_zone 0 0) zones ≡ zones
+same_zones [] = refl
+same_zones (z ∷ zs) = λ i. same_zone z i ∷ same_zones zs i
+
+abbrev made_job : ℕ → List Zone → List Ink → Job
+made_job resolution zones details = record { resolution = resolution; zones = zones; details = details }
+
+-- so a job of them is the same
+pub same_job : (job : Job) (zones : List Zone) (details : List Ink) → zones ≡ map (moved_zone 0 0) job.zones → details ≡ job.details → made_job job.resolution zones details ≡ job
+same_job job zones details z d = λ i. made_job job.resolution ((z ∙ same_zones job.zones) i) (d i)

@@ -5,7 +5,7 @@ use Rattle.common_errors.specs.CommonErrors.{line_of, status_of}
 use Rattle.common_errors.specs.Statuses.{page_refused, usage}
 use Rattle.trap_c.specs.declared.error.CallFault.{CallFault}
 use Rattle.trap_c.specs.declared.error.CallFault.TheVariants.{Names, Sides, Step, Maxval, Samples}
-use Rattle.trap_c.specs.declared.error.CallFault.TheVariants.{Handle, Place}
+use Rattle.trap_c.specs.declared.error.CallFault.TheVariants.{Handle, Place, Size}
 use Rattle.trap_c.specs.declared.error.CallError.{CallError}
 use Rattle.trap_c.specs.declared.error.CallError.TheVariants.{Call, Far, Page}
 
@@ -23,6 +23,7 @@ line_of_call Step = line (codes "call: Step")
 line_of_call Maxval = line (codes "call: Maxval")
 line_of_call Samples = line (codes "call: Samples")
 line_of_call Place = line (codes "call: Place")
+line_of_call Size = line (codes "call: Size")
 line_of_call Handle = line (codes "call: Handle")
 
 -- the line of an error

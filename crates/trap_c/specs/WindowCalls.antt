@@ -24,12 +24,14 @@ use Rattle.trap_c.specs.declared.place.Place.{Place}
 use Rattle.trap_c.specs.declared.error.CallError.{CallError}
 use Rattle.trap_c.specs.declared.error.CallError.TheVariants.{Page}
 use Rattle.trap_c.specs.declared.work.Done.{Done}
+use Rattle.trap_c.specs.declared.work.Told.{Told}
 use Rattle.trap_c.specs.Calls.{IsWorked, Tells}
 use Rattle.trap_c.specs.Cores.{IsBeside, core_counts, core_run, sum_over}
 use Rattle.trap_c.specs.Fit.{AreSides}
 use Rattle.trap_c.specs.Names.{names_in}
 use Rattle.trap_c.specs.Places.{IsPlaced, core_of, cut_of, job_halo, tile_of}
 use Rattle.trap_c.specs.Planes.{planes_in}
+use Rattle.trap_c.specs.ReportRecords.{AreFew}
 use Rattle.trap_c.specs.Requests.{Asked}
 use Rattle.trap_c.specs.Errors.{line_of_error, status_of_error}
 use Rattle.trap_c.specs.Windows.{call_window}
@@ -50,6 +52,8 @@ WorksWindow most layout place before made (Ok work) =
     × LiesOn page (core_of place)
     × IsPlaced layout place
     × AreSides layout
+    × (work.counts ≡ core_counts page (core_of place))
+    × AreFew work.counts
 WorksWindow most layout place before made (Err error) = (error ≡ Page Memory) ⊎ (made ≡ Err error)
 
 -- A sheet of a job, with the sides that the place gives, that shows these samples in the window.
@@ -88,10 +92,10 @@ pub record IsOnSheet (layout : Layout) (place : Place) (page sheet : PageParts) 
       ≡ area_sum (edges_at sheet) (place.left + place.core_left) (place.top + place.core_top)
       place.core_width place.core_height
 
--- A window's call that is done.
-pub record HasTrapped (most : ℕ) (asked : Asked) (place : Place) (before after text text' : List ℕ)
-    (len : ℕ) (page : PageParts) : Type 0 where
-  -- it was for that page
+-- The core of a window after trapping, as it stands in the samples.
+pub record HasCore (most : ℕ) (asked : Asked) (place : Place) (before after : List ℕ)
+    (page : PageParts) : Type 0 where
+  -- it is that page's
   pub page_is : call_window most asked place before ≡ Ok page
   -- the core's samples are the page's new tints
   pub core : (c y x : ℕ) → c < plates page → y < place.core_height → x < place.core_width
@@ -101,12 +105,28 @@ pub record HasTrapped (most : ℕ) (asked : Asked) (place : Place) (before after
   pub rest : (k : ℕ) → ((c y : ℕ) → c < plates page → y < place.core_height
       → IsBeside k (core_run asked.layout (core_of place) c y) place.core_width)
       → slice_index after k ≡ slice_index before k
-  -- the text is the core's part of the report
-  pub reported : Tells (core_report place page) text text' len
   -- and whatever sheet of the job it is that shows these samples there, all that is so on it
   pub sheets : (job : Job) (sheet : PageParts) → job_of asked.job ≡ Ok job
       → IsSheetOf job asked place before sheet
       → IsOnSheet asked.layout place page sheet after
+
+-- What is made of a window: its core, and the core's part of the report. Or all samples stay, and
+-- there is the error that the arguments call for, or memory was refused.
+abbrev pub MakesWindow : ℕ → Asked → Place → List ℕ → List ℕ → Result Told CallError → Type 0
+MakesWindow most asked place before after (Ok told) =
+    (page : PageParts) × HasCore most asked place before after page
+    × (told.report ≡ core_report place page) × (told.counts ≡ core_counts page (core_of place))
+    × AreFew told.counts
+MakesWindow most asked place before after (Err error) =
+    (after ≡ before)
+    × ((error ≡ Page Memory) ⊎ (call_window most asked place before ≡ Err error))
+
+-- A window's call that is done: the samples have the core, and the text is the core's part of the
+-- report.
+pub record HasTrapped (most : ℕ) (asked : Asked) (place : Place) (before after text text' : List ℕ)
+    (len : ℕ) (page : PageParts) : Type 0 where
+  pub samples : HasCore most asked place before after page
+  pub reported : Tells (core_report place page) text text' len
 
 abbrev pub SucceedsWindow : ℕ → Asked → Place → List ℕ → List ℕ → List ℕ → List ℕ → ℕ → Type 0
 SucceedsWindow most asked place before after text text' len =
@@ -138,10 +158,12 @@ error_of_job OutOfMemory = Page Memory
 abbrev pub HaloIs : List ℕ → ℕ → Type 0
 HaloIs bytes halo = (job : Job) × (job_of bytes ≡ Ok job) × (halo ≡ job_halo job)
 
+abbrev pub JobRefused : List ℕ → CallError → Type 0
+JobRefused bytes error = (error ≡ Page Memory)
+    ⊎ ((fault : JobFault) × (job_of bytes ≡ Err fault) × (error ≡ Page (JobFaulty fault)))
+
 abbrev pub HaloRefused : List ℕ → ℕ → CallError → Type 0
-HaloRefused bytes status error =
-    (status ≡ status_of_error error) × ((error ≡ Page Memory)
-    ⊎ ((fault : JobFault) × (job_of bytes ≡ Err fault) × (error ≡ Page (JobFaulty fault))))
+HaloRefused bytes status error = (status ≡ status_of_error error) × JobRefused bytes error
 
 -- What the call for the halo does.
 pub record TellsHalo (bytes : List ℕ) (halo halo' : ℕ) (text text' : List ℕ) (len status : ℕ)

@@ -2,7 +2,7 @@ ghost use Rattle.std.specs.Prelude.{◌≡◌, ◌≢◌, MatchOption};
 ghost use Rattle.common_errors.specs.Statuses.{done as done_status};
 ghost use Rattle.trap_c.specs.Calls.{Tells, Traps};
 ghost use Rattle.trap_c.specs.Requests.{asked};
-ghost use Rattle.trap_c.specs.WindowCalls.{TellsHalo, TrapsWindow, error_of_job};
+ghost use Rattle.trap_c.specs.WindowCalls.{MakesWindow, TellsHalo, TrapsWindow, error_of_job};
 ghost use Rattle.trap_c.specs.Windows.{IsRead};
 ghost use Rattle.trap_c.specs.Errors.{line_of_error, status_of_error};
 ghost use Rattle.page_model.specs.Limits.{most_maxval};
@@ -14,7 +14,7 @@ use crate::place::{Place, core_of};
 use crate::planes::{put_bytes, put_words};
 use crate::request::Request;
 use crate::source::Source;
-use crate::work::{carry_out, carry_out_window};
+use crate::work::{Done, Told, carry_out, carry_out_window};
 use common_errors::common::CommonError;
 use common_errors::statuses::DONE;
 use job_reader::job::Job;
@@ -67,20 +67,17 @@ pub fn answer_bytes(
     }
 }
 
-/// Carries out a window's call over samples of two bytes, writes the core's part of the report or the line of the
-/// error to the text, and returns the status. `known` is the job that was read of the request's bytes, if it was.
-pub fn answer_window_words(
+/// Traps the core of a window over samples of two bytes, and returns the core's part of the report and its counts. `known` is the job that
+/// was read of the request's bytes, if it was.
+pub fn trap_window_words(
     alloc: Global,
     request: &Request<'_>,
     known: Option<&Job>,
     place: &Place,
     samples: &mut [u16],
-    text: &mut [u8],
-    text_len: &mut usize,
-) -> u8
+) -> Result<Told, CallError>
     requires { MatchOption known (Unit {0}) (λ job. IsRead request.now.job.now job.now) }
-    ensures { TrapsWindow most_maxval (asked request.now) place.now samples.old samples.new text.old
-        text.new text_len.new result }
+    ensures { MakesWindow most_maxval (asked request.now) place.now samples.old samples.new result }
 {
     window_law();
     tile_law();
@@ -94,7 +91,52 @@ pub fn answer_window_words(
     ) {
         Ok(done) => {
             put_word_cores(&done.planes, request.layout, &core_of(place), samples);
-            put_text(done.report.as_slice(), text, text_len);
+            let Done { report, counts, .. } = done;
+            Ok(Told { report, counts })
+        }
+        Err(error) => Err(error),
+    }
+}
+
+/// Does what `trap_window_words` does, for samples of one byte.
+pub fn trap_window_bytes(
+    alloc: Global,
+    request: &Request<'_>,
+    known: Option<&Job>,
+    place: &Place,
+    samples: &mut [u8],
+) -> Result<Told, CallError>
+    requires { MatchOption known (Unit {0}) (λ job. IsRead request.now.job.now job.now) }
+    ensures { MakesWindow 255 (asked request.now) place.now samples.old samples.new result }
+{
+    window_law();
+    tile_law();
+    match carry_out_window(alloc, 255, request, known, place, &Source::Bytes(samples)) {
+        Ok(done) => {
+            put_byte_cores(&done.planes, request.layout, &core_of(place), samples);
+            let Done { report, counts, .. } = done;
+            Ok(Told { report, counts })
+        }
+        Err(error) => Err(error),
+    }
+}
+
+/// Carries out a window's call over samples of two bytes, writes the core's part of the report or the line of the
+/// error to the text, and returns the status.
+pub fn answer_window_words(
+    alloc: Global,
+    request: &Request<'_>,
+    place: &Place,
+    samples: &mut [u16],
+    text: &mut [u8],
+    text_len: &mut usize,
+) -> u8
+    ensures { TrapsWindow most_maxval (asked request.now) place.now samples.old samples.new text.old
+        text.new text_len.new result }
+{
+    match trap_window_words(alloc, request, None, place, samples) {
+        Ok(told) => {
+            put_text(told.report.as_slice(), text, text_len);
             DONE
         }
         Err(error) => refuse(&error, text, text_len),
@@ -105,22 +147,17 @@ pub fn answer_window_words(
 pub fn answer_window_bytes(
     alloc: Global,
     request: &Request<'_>,
-    known: Option<&Job>,
     place: &Place,
     samples: &mut [u8],
     text: &mut [u8],
     text_len: &mut usize,
 ) -> u8
-    requires { MatchOption known (Unit {0}) (λ job. IsRead request.now.job.now job.now) }
     ensures { TrapsWindow 255 (asked request.now) place.now samples.old samples.new text.old
         text.new text_len.new result }
 {
-    window_law();
-    tile_law();
-    match carry_out_window(alloc, 255, request, known, place, &Source::Bytes(samples)) {
-        Ok(done) => {
-            put_byte_cores(&done.planes, request.layout, &core_of(place), samples);
-            put_text(done.report.as_slice(), text, text_len);
+    match trap_window_bytes(alloc, request, None, place, samples) {
+        Ok(told) => {
+            put_text(told.report.as_slice(), text, text_len);
             DONE
         }
         Err(error) => refuse(&error, text, text_len),

@@ -21,6 +21,8 @@ pub enum CallFault {
     /// The window is not within the sheet, or its core empty or not within the window; the halo is too small; or the
     /// job has zones and the window's corner is not at a multiple of the step.
     Place,
+    /// The caller gives a struct another size than the library has for it.
+    Size,
     /// The handle is open, where a job is to be opened; or not open, where one is needed.
     Handle,
 }
@@ -70,6 +72,7 @@ fn call_line(fault: CallFault) -> Line
         CallFault::Maxval => Line::of_text(b"call: Maxval"),
         CallFault::Samples => Line::of_text(b"call: Samples"),
         CallFault::Place => Line::of_text(b"call: Place"),
+        CallFault::Size => Line::of_text(b"call: Size"),
         CallFault::Handle => Line::of_text(b"call: Handle"),
     }
 }

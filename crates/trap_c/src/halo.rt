@@ -21,9 +21,9 @@ fn zone_reach_of(job: &Job, z: usize) -> u32
     }
 }
 
-// The reach of a job in half-samples: the greatest of its zones.
+/// The reach of a job in half-samples: the greatest of its zones.
 #[tactic(auto, unfolding(page_model::specs::Reach::page_reach))]
-fn reach_of_job(job: &Job) -> u32
+pub fn reach_of_job(job: &Job) -> u32
     requires { IsJob job.now }
     ensures { result ≡ job_reach job.now }
 {

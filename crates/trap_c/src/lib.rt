@@ -5,14 +5,17 @@
 mod answer;
 mod cores;
 mod error;
+mod error_record;
 mod fit;
 mod halo;
+mod info;
 mod layout;
 mod names;
 mod opened;
 mod page;
 mod place;
 mod planes;
+mod report_record;
 mod request;
 mod shift;
 mod source;
@@ -23,7 +26,7 @@ mod work;
 ghost use Rattle.std.specs.Prelude.{◌≡◌, None};
 ghost use Rattle.job_handles.specs.Opened.{opened};
 ghost use Rattle.trap_c.specs.Calls.{Traps};
-ghost use Rattle.trap_c.specs.Opened.{OpensJob, TellsOpenHalo, TrapsOpened};
+ghost use Rattle.trap_c.specs.Opened.{OpensJob, SharesJob, TellsInfo, TellsOpenHalo, TrapsOpened};
 ghost use Rattle.trap_c.specs.Requests.{asked_by};
 ghost use Rattle.trap_c.specs.WindowCalls.{TellsHalo, TrapsWindow};
 ghost use Rattle.page_model.specs.Limits.{most_maxval};
@@ -31,9 +34,15 @@ ghost use Rattle.page_model.specs.Limits.{most_maxval};
 use crate::answer::{
     answer_bytes, answer_halo, answer_window_bytes, answer_window_words, answer_words,
 };
+use crate::error_record::ErrorRecord;
+use crate::info::Info;
 use crate::layout::Layout;
-use crate::opened::{answer_open, answer_open_bytes, answer_open_halo, answer_open_words, close};
+use crate::opened::{
+    answer_info, answer_open, answer_open_bytes, answer_open_halo, answer_open_words, answer_share,
+    close,
+};
 use crate::place::Place;
+use crate::report_record::ReportRecord;
 use crate::request::Request;
 use job_handles::job_handle::JobHandle;
 use std::alloc::Global;
@@ -147,7 +156,7 @@ pub extern "C" fn trap_window16(
         maxval,
     };
     let request = Request { job, names, layout };
-    answer_window_words(alloc, &request, None, place, samples, text, text_len)
+    answer_window_words(alloc, &request, place, samples, text, text_len)
 }
 
 /// Does what `trap_window16` does, for samples of one byte: the maxval is at most 255.
@@ -175,7 +184,7 @@ pub extern "C" fn trap_window8(
         maxval,
     };
     let request = Request { job, names, layout };
-    answer_window_bytes(alloc, &request, None, place, samples, text, text_len)
+    answer_window_bytes(alloc, &request, place, samples, text, text_len)
 }
 
 /// Opens a job: it is read once, for all calls that are given the handle. The handle is all 0 at first, and otherwise as the
@@ -189,11 +198,29 @@ pub extern "C" fn trap_open(
     handle: &mut JobHandle,
     text: &mut [u8],
     text_len: &mut usize,
+    error: &mut ErrorRecord,
 ) -> u8
     ensures { OpensJob job.now (opened handle.old) (opened handle.new) text.old text.new
-        text_len.new result }
+        text_len.new result error.old error.new }
 {
-    answer_open(alloc, job, handle, text, text_len)
+    answer_open(alloc, job, handle, text, text_len, error)
+}
+
+/// Opens the job of a handle in another, which is not open yet, for another thread: it is copied, and not read again. The status
+/// is 0, or that of the error, and an error leaves `other` unchanged: 2 for a struct of another size, for a handle that
+/// is not open or another that is, and 7 if there is too little memory.
+#[unsafe(no_mangle)]
+pub extern "C" fn trap_share(
+    alloc: Global,
+    handle: &mut JobHandle,
+    other: &mut JobHandle,
+    error: &mut ErrorRecord,
+) -> u8
+    ensures kept { opened handle.new ≡ opened handle.old }
+    ensures shares { SharesJob (opened handle.old) (opened other.old) (opened other.new) result
+        error.old error.new }
+{
+    answer_share(alloc, handle, other, error)
 }
 
 /// Closes a handle and frees its memory. One that is not open is left as it is.
@@ -213,6 +240,21 @@ pub extern "C" fn trap_open_halo(alloc: Global, handle: &mut JobHandle, halo: &m
     answer_open_halo(alloc, handle, halo)
 }
 
+/// Writes the figures of an open job to `info`, whose size the caller has set. The status is 0; or 2 for another size than
+/// the struct's, and else for a handle that is not open, and `info` is unchanged.
+#[unsafe(no_mangle)]
+pub extern "C" fn trap_job_info(
+    alloc: Global,
+    handle: &mut JobHandle,
+    info: &mut Info,
+    error: &mut ErrorRecord,
+) -> u8
+    ensures kept { opened handle.new ≡ opened handle.old }
+    ensures info { TellsInfo (opened handle.old) info.old info.new result error.old error.new }
+{
+    answer_info(alloc, handle, info, error)
+}
+
 /// Does what `trap_window16` does with the job's bytes, whatever was done with the handle before. The status and the line are
 /// those of `trap_window16`, without those of the job, and before all others 2 for a handle that is not open.
 #[unsafe(no_mangle)]
@@ -228,11 +270,14 @@ pub extern "C" fn trap_open_window16(
     place: &Place,
     text: &mut [u8],
     text_len: &mut usize,
+    report: &mut ReportRecord,
+    error: &mut ErrorRecord,
 ) -> u8
     ensures kept { opened handle.new ≡ opened handle.old }
     ensures traps { TrapsOpened most_maxval (opened handle.old) names.now
         (record { width = width; height = height; step = step; maxval = maxval }) place.now
-        samples.old samples.new text.old text.new text_len.new result }
+        samples.old samples.new text.old text.new text_len.new result report.old report.new
+        error.old error.new }
 {
     let layout = Layout {
         width,
@@ -240,7 +285,9 @@ pub extern "C" fn trap_open_window16(
         step,
         maxval,
     };
-    answer_open_words(alloc, handle, names, layout, place, samples, text, text_len)
+    answer_open_words(
+        alloc, handle, names, layout, place, samples, text, text_len, report, error,
+    )
 }
 
 /// Does what `trap_open_window16` does, for samples of one byte: the maxval is at most 255.
@@ -257,11 +304,14 @@ pub extern "C" fn trap_open_window8(
     place: &Place,
     text: &mut [u8],
     text_len: &mut usize,
+    report: &mut ReportRecord,
+    error: &mut ErrorRecord,
 ) -> u8
     ensures kept { opened handle.new ≡ opened handle.old }
     ensures traps { TrapsOpened 255 (opened handle.old) names.now
         (record { width = width; height = height; step = step; maxval = maxval }) place.now
-        samples.old samples.new text.old text.new text_len.new result }
+        samples.old samples.new text.old text.new text_len.new result report.old report.new
+        error.old error.new }
 {
     let layout = Layout {
         width,
@@ -269,7 +319,9 @@ pub extern "C" fn trap_open_window8(
         step,
         maxval,
     };
-    answer_open_bytes(alloc, handle, names, layout, place, samples, text, text_len)
+    answer_open_bytes(
+        alloc, handle, names, layout, place, samples, text, text_len, report, error,
+    )
 }
 
 /// The library's version as one number: 10,000 times the first part, plus 100 times the second, plus the third.

@@ -4,6 +4,7 @@ ghost use Rattle.page_model.specs.Tints.{trapped_planes};
 ghost use Rattle.sheet_engine.specs.Growth.{AddsArea, LiesOn};
 ghost use Rattle.trap_c.specs.Cores.{AreNone, HasCounts, core_counts};
 ghost use Rattle.trap_c.specs.Places.{core_of as core_spec};
+ghost use Rattle.trap_c.specs.ReportRecords.{AreFew};
 ghost use Rattle.trap_report.specs.Report.{sided_report_of};
 
 use crate::place::{Place, core_of};
@@ -78,10 +79,18 @@ pub fn trapped_window(alloc: Global, page: &Page, place: &Place) -> Result<Done,
     ensures report { IfOk result (λ done. done.report ≡ sided_report_of page.now
         place.now.sheet_width place.now.sheet_height
         (core_counts page.now (core_spec place.now))) }
+    ensures counts { IfOk result (λ done. done.counts
+        ≡ core_counts page.now (core_spec place.now)) }
+    ensures few { IfOk result (λ done. AreFew done.counts) }
     ensures in_range { All IsPlane (trapped_planes page.now) }
 {
+    let _valid = page.plates();
     trapped_planes_law(page);
     let Tallied { planes, counts } = tally_window(alloc, page, place)?;
     let report = sided_report(alloc, page, place.sheet_width, place.sheet_height, &counts)?;
-    Ok(Done { planes, report })
+    Ok(Done {
+        planes,
+        report,
+        counts,
+    })
 }

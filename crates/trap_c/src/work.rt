@@ -30,17 +30,25 @@ use job_reader::job::Job;
 use lists::names::{Name, NameList, OutOfMemory};
 use page_model::laws::trapped_planes_law;
 use page_model::page::Page;
-use page_model::parts::PlaneList;
+use page_model::parts::{Counts, PlaneList};
 use page_tally::Trapped;
 use std::alloc::Global;
 use strip_engine::trap_alone;
 use trap_report::report::report;
 
-/// A page after trapping, and its report.
+/// A page after trapping, its report, and what that counts.
 #[derive(Drop)]
 pub struct Done {
     pub planes: PlaneList,
     pub report: Name,
+    pub counts: Counts,
+}
+
+/// What a call says of a page that was trapped: the report, and what it counts.
+#[derive(Drop)]
+pub struct Told {
+    pub report: Name,
+    pub counts: Counts,
 }
 
 /// Carries out a call up to the planes after trapping, which are still to be written to the samples. `most` is the
@@ -109,7 +117,11 @@ fn trap_whole(alloc: Global, page: &Page) -> Result<Done, OutOfMemory>
     trapped_planes_law(page);
     let Trapped { planes, counts } = trap_alone(alloc, page)?;
     let report = report(alloc, page, &counts)?;
-    Ok(Done { planes, report })
+    Ok(Done {
+        planes,
+        report,
+        counts,
+    })
 }
 
 /// Carries out a window's call up to the planes after trapping, whose cores are still to be written to the samples.

@@ -7,8 +7,10 @@
 use std::ffi::c_char;
 use std::fmt;
 
-use trap_sys::TrapJob;
+pub use trap_sys::TrapInfo as JobInfo;
 pub use trap_sys::TrapPlace as Place;
+pub use trap_sys::{self as sys, TrapError};
+use trap_sys::{TrapJob, TrapReport};
 
 /// How planes lie in the samples: the sides of each in samples, the samples from the start of a row to that of the next, and the
 /// tint of full ink.
@@ -33,11 +35,13 @@ pub enum Kind {
     Memory,
 }
 
-/// A call that failed: its kind and its error line, such as "job: OutOfRange TrapWidth at 14".
+/// A call that failed: its kind and its error line, such as "job: OutOfRange TrapWidth at 14"; and of a call over an open job what
+/// the line says in numbers, with the constants of `sys`.
 #[derive(Clone, Debug, PartialEq, Eq)]
 pub struct Refusal {
     pub kind: Kind,
     pub line: String,
+    pub error: Option<TrapError>,
 }
 
 impl fmt::Display for Refusal {
@@ -75,11 +79,24 @@ pub struct Call<'a> {
     layout: Layout,
 }
 
-/// The text of a call.
+/// The report of a window by an open job: its text (docs/REPORT.md), and its counts.
+#[derive(Clone, Debug, PartialEq, Eq)]
+pub struct Report {
+    pub text: String,
+    pub edges: u64,
+    /// For each zone its samples, and how many of them changed.
+    pub zones: Vec<(u64, u64)>,
+    /// For each plane the samples that changed.
+    pub changed: Vec<u64>,
+}
+
+/// What a call tells: its text, and of a call over an open job its counts and its error in numbers.
 #[doc(hidden)]
 pub struct Text {
     bytes: Vec<u8>,
     len: usize,
+    report: TrapReport,
+    error: TrapError,
 }
 
 impl Text {
@@ -87,6 +104,19 @@ impl Text {
         Text {
             bytes: vec![0; trap_sys::LIBTRAP_TEXT_SIZE],
             len: 0,
+            report: TrapReport {
+                size: std::mem::size_of::<TrapReport>() as u32,
+                zones: 0,
+                planes: 0,
+                edges: 0,
+                zone_samples: [0; 251],
+                zone_changed: [0; 251],
+                plane_changed: [0; 16],
+            },
+            error: TrapError {
+                size: std::mem::size_of::<TrapError>() as u32,
+                ..TrapError::default()
+            },
         }
     }
 
@@ -100,7 +130,7 @@ impl Text {
 
 /// Calls a function of the library for planes: all of a page; or those of a window, at a place.
 macro_rules! trapped {
-    ($function:ident, ($($job:expr),*), $call:ident, $samples:ident, $text:ident $(, $place:ident)?) => {
+    ($function:ident, ($($job:expr),*), $call:ident, $samples:ident, $text:ident $(, $place:ident)? $(; $report:ident, $error:ident)?) => {
         // SAFETY: each pointer comes from a slice, with its length, or from a reference; the samples, the open job, the text and
         // its length are borrowed mutably, so nothing else shares memory with them.
         unsafe {
@@ -118,6 +148,7 @@ macro_rules! trapped {
                 $text.bytes.as_mut_ptr().cast(),
                 $text.bytes.len(),
                 &mut $text.len,
+                $(&mut $text.$report, &mut $text.$error,)?
             )
         }
     };
@@ -140,7 +171,7 @@ macro_rules! samples {
                         )
                     }
                     Source::Open(handle, place) => {
-                        trapped!($opened, (*handle as *mut TrapJob), call, samples, text, place)
+                        trapped!($opened, (*handle as *mut TrapJob), call, samples, text, place; report, error)
                     }
                 }
             }
@@ -153,6 +184,7 @@ samples!(u16, trap_planes16, trap_window16, trap_open_window16);
 
 /// The text of a call that is done; or its refusal.
 fn answer(status: u8, text: Text) -> Result<String, Refusal> {
+    let error = Some(text.error).filter(|error| error.kind != trap_sys::LIBTRAP_KIND_NONE);
     let line = text.into_string();
     let kind = match status {
         trap_sys::LIBTRAP_DONE => return Ok(line),
@@ -161,14 +193,31 @@ fn answer(status: u8, text: Text) -> Result<String, Refusal> {
         trap_sys::LIBTRAP_PAGE => Kind::Page,
         _ => Kind::Memory,
     };
-    Err(Refusal { kind, line })
+    Err(Refusal { kind, line, error })
+}
+
+/// The counts of a call that is done.
+fn counts(report: &TrapReport) -> Report {
+    let (zones, planes) = (report.zones as usize, report.planes as usize);
+    let samples = report.zone_samples[..zones].iter().copied();
+    Report {
+        text: String::new(),
+        edges: report.edges,
+        zones: samples.zip(report.zone_changed).collect(),
+        changed: report.plane_changed[..planes].to_vec(),
+    }
 }
 
 fn trap<S: Sample>(source: Source<'_>, names: &[&str], samples: &mut [S], layout: Layout) -> Result<String, Refusal> {
+    report(source, names, samples, layout).map(|report| report.text)
+}
+
+fn report<S: Sample>(source: Source<'_>, names: &[&str], samples: &mut [S], layout: Layout) -> Result<Report, Refusal> {
     if names.iter().any(|name| name.contains('\n')) {
         return Err(Refusal {
             kind: Kind::Call,
             line: "call: Names".to_owned(),
+            error: None,
         });
     }
     let mut call = Call {
@@ -178,7 +227,8 @@ fn trap<S: Sample>(source: Source<'_>, names: &[&str], samples: &mut [S], layout
     };
     let mut text = Text::new();
     let status = S::call(&mut call, samples, &mut text);
-    answer(status, text)
+    let counted = counts(&text.report);
+    answer(status, text).map(|text| Report { text, ..counted })
 }
 
 /// Traps the planes of a page in place, and returns the report (docs/REPORT.md).
@@ -243,9 +293,29 @@ impl OpenJob {
                 into,
                 text.bytes.len(),
                 &mut text.len,
+                &mut text.error,
             )
         };
         answer(status, text).map(|_| opened)
+    }
+
+    /// The same job once more, for another thread: it is copied, and not read again.
+    pub fn share(&mut self) -> Result<OpenJob, Refusal> {
+        let mut other = OpenJob {
+            handle: TrapJob::none(),
+        };
+        let mut text = Text::new();
+        // SAFETY: all are borrowed mutably, and `other` is new.
+        let status = unsafe { trap_sys::trap_share(&mut self.handle, &mut other.handle, &mut text.error) };
+        match status {
+            trap_sys::LIBTRAP_DONE => Ok(other),
+            // The job is open and `other` is not, so there was too little memory.
+            _ => Err(Refusal {
+                kind: Kind::Memory,
+                line: "out of memory".to_owned(),
+                error: Some(text.error),
+            }),
+        }
     }
 
     /// What `halo` gives for the job.
@@ -256,15 +326,26 @@ impl OpenJob {
         halo
     }
 
-    /// Does what `trap_window` does with the job.
+    /// The figures of the job.
+    pub fn info(&mut self) -> JobInfo {
+        let mut info = JobInfo {
+            size: std::mem::size_of::<JobInfo>() as u32,
+            ..JobInfo::default()
+        };
+        // SAFETY: both are borrowed mutably. The job is open and the size right, so the status is 0.
+        unsafe { trap_sys::trap_job_info(&mut self.handle, &mut info, std::ptr::null_mut()) };
+        info
+    }
+
+    /// Does what `trap_window` does with the job, and returns the counts of the core too.
     pub fn trap_window<S: Sample>(
         &mut self,
         names: &[&str],
         samples: &mut [S],
         layout: Layout,
         place: &Place,
-    ) -> Result<String, Refusal> {
-        trap(Source::Open(&mut self.handle, place), names, samples, layout)
+    ) -> Result<Report, Refusal> {
+        report(Source::Open(&mut self.handle, place), names, samples, layout)
     }
 }
 

@@ -3,7 +3,7 @@
 
 use std::fs;
 use std::path::PathBuf;
-use trapping::{halo, trap_page, trap_window, version, Kind, Layout, OpenJob, Place};
+use trapping::{halo, sys, trap_page, trap_window, version, Kind, Layout, OpenJob, Place};
 
 const INKS: [&str; 4] = ["Cyan", "Magenta", "Yellow", "Black"];
 const LAYOUT: Layout = Layout {
@@ -50,9 +50,12 @@ fn a_page_of_words() {
 #[test]
 fn bands_are_the_page() {
     let job = file("poster.job");
-    let mut opened = OpenJob::new(&job).unwrap();
+    let mut first = OpenJob::new(&job).unwrap();
+    let mut opened = first.share().unwrap();
+    drop(first);
     let (rendered, more) = (planes("plates"), halo(&job).unwrap());
     assert_eq!(opened.halo(), more);
+    assert_eq!((opened.info().halo, opened.info().inks), (more, INKS.len() as u64));
     let mut trapped = vec![0; rendered.len()];
     for top in (0..LAYOUT.height).step_by(100) {
         let (first, end) = (top.saturating_sub(more), (top + 100 + more).min(LAYOUT.height));
@@ -76,7 +79,16 @@ fn bands_are_the_page() {
         };
         let mut other = window.clone();
         let report = trap_window(&job, &INKS, &mut window, layout, &place).unwrap();
-        assert_eq!(opened.trap_window(&INKS, &mut other, layout, &place).unwrap(), report);
+        let told = opened.trap_window(&INKS, &mut other, layout, &place).unwrap();
+        assert_eq!(told.text, report);
+        assert!(report.contains(&format!(
+            "\nedges {}\nplate Cyan changed {}\n",
+            told.edges, told.changed[0]
+        )));
+        assert_eq!(
+            told.zones.iter().map(|zone| zone.0).sum::<u64>(),
+            100 * u64::from(LAYOUT.width)
+        );
         assert!(other == window);
         for c in 0..INKS.len() {
             let from = (c * (end - first) as usize + (top - first) as usize) * LAYOUT.width as usize;
@@ -92,7 +104,12 @@ fn refusals_leave_the_samples() {
     let mut samples = planes("plates");
     let refusal = trap_page(b"<<", &INKS, &mut samples, LAYOUT).unwrap_err();
     assert_eq!(refusal.kind, Kind::Job);
-    assert_eq!(OpenJob::new(b"<<").unwrap_err(), refusal);
+    assert_eq!(refusal.error, None);
+    let opened = OpenJob::new(b"<<").unwrap_err();
+    assert_eq!((opened.kind, &opened.line), (refusal.kind, &refusal.line));
+    let error = opened.error.unwrap();
+    assert_eq!((error.status, error.kind), (3, sys::LIBTRAP_KIND_UNCLOSED));
+    assert_eq!((error.offset, error.plate), (0, sys::LIBTRAP_NO_NUMBER));
     let refusal = trap_page(
         &file("poster.job"),
         &["Cyan\nMagenta", "Yellow", "Black"],
