@@ -47,19 +47,30 @@ tints_same sheet cut (UnderBlack rich) halo c p is enough inside =
     black_kept sheet cut rich c (halo - 1) p is (subst (λ (n : ℕ). near_limit rich.width sheet.resolution < square n) next enough) (deeper sheet cut (2 * ((halo - 1) + 1)) p (omega (arith, some)) inside)
 tints_same sheet cut (UnderColour whites) halo c p is enough inside = colour_kept sheet cut whites halo c p is enough.0 (λ wide e. followed_in sheet.resolution whites (ink_at sheet c).name wide enough.1 e) inside
 
+-- each pixel of a core has the halo around it
+inside : (sheet : PageParts) (cut core : Cut) (halo x y : ℕ) → HasHalo sheet cut core halo → x < core.width → y < core.height → IsInside sheet cut (2 * halo) (in_core core x y)
+inside sheet cut core halo x y has lx ly = record {
+  x = omega (arith, has.across, lx);
+  y = omega (arith, has.down, ly);
+  left = λ more. let b = has.left more in omega arith;
+  right = λ more. let b = has.right more in omega (arith, lx);
+  top = λ more. let b = has.top more in omega arith;
+  bottom = λ more. let b = has.bottom more in omega (arith, ly);
+}
+
 farther : (a b c : ℕ) → a + (b + c) ≡ a + b + c
 farther a b c = omega arith
 
 pub core_law : (sheet : PageParts) (cut core : Cut) (used : KeepUse) (halo : ℕ) → IsCut sheet cut → IsHalo sheet.resolution used halo → HasHalo sheet cut core halo → KeepCoreLaw sheet cut core used
-core_law sheet cut core used halo is enough deep = record {
-  cover = λ x y lx ly. cover_same sheet cut used halo (in_core core x y) is enough (deep x y lx ly);
-  tints = λ x y c lx ly. tints_same sheet cut used halo c (in_core core x y) is enough (deep x y lx ly);
+core_law sheet cut core used halo is enough has = record {
+  cover = λ x y lx ly. cover_same sheet cut used halo (in_core core x y) is enough (inside sheet cut core halo x y has lx ly);
+  tints = λ x y c lx ly. tints_same sheet cut used halo c (in_core core x y) is enough (inside sheet cut core halo x y has lx ly);
   covers = area-same (covers_at used (window sheet cut)) (covers_at used sheet) core.left core.top (cut.left + core.left) (cut.top + core.top) core.width core.height
-      (λ x y lx ly. ap one_if (cover_same sheet cut used halo (in_core core x y) is enough (deep x y lx ly)) ∙ moved (covers_at used sheet) x y);
+      (λ x y lx ly. ap one_if (cover_same sheet cut used halo (in_core core x y) is enough (inside sheet cut core halo x y has lx ly)) ∙ moved (covers_at used sheet) x y);
   changes = λ c. area-same (changes_at used c (window sheet cut)) (changes_at used c sheet) core.left core.top (cut.left + core.left) (cut.top + core.top) core.width core.height
       (λ x y lx ly.
-      ap (λ (n : ℕ). one_if (not (n == tint (window sheet cut) c (in_core core x y)))) (tints_same sheet cut used halo c (in_core core x y) is enough (deep x y lx ly))
-      ∙ ap (λ (n : ℕ). one_if (not (kept sheet used c (on_sheet cut (in_core core x y)) == n))) (tint-same sheet cut c (in_core core x y) is (lies_inside sheet cut (2 * halo) (in_core core x y) (deep x y lx ly)))
+      ap (λ (n : ℕ). one_if (not (n == tint (window sheet cut) c (in_core core x y)))) (tints_same sheet cut used halo c (in_core core x y) is enough (inside sheet cut core halo x y has lx ly))
+      ∙ ap (λ (n : ℕ). one_if (not (kept sheet used c (on_sheet cut (in_core core x y)) == n))) (tint-same sheet cut c (in_core core x y) is (lies_inside sheet cut (2 * halo) (in_core core x y) (inside sheet cut core halo x y has lx ly)))
       ∙ moved (changes_at used c sheet) x y);
 }
   where

@@ -6,10 +6,9 @@ use Rattle.lists.specs.Words.{square}
 use Rattle.page_model.specs.declared.parts.At.{At}
 use Rattle.page_model.specs.declared.parts.PageParts.{PageParts}
 use Rattle.page_model.specs.Limits.{most_reach}
-use Rattle.page_model.specs.Page.{tint}
+use Rattle.page_model.specs.Page.{height, tint, width}
 use Rattle.sheet_geometry.specs.declared.cuts.Cut.{Cut}
 use Rattle.sheet_geometry.specs.Areas.{area_sum, one_if}
-use Rattle.sheet_geometry.specs.WindowLaw.{IsInside}
 use Rattle.sheet_geometry.specs.Windows.{on_sheet, window}
 use Rattle.keepaway.specs.Keepaway.{near_limit, pixel}
 use Rattle.underprint.specs.declared.parts.White.{White}
@@ -59,10 +58,15 @@ core_on_sheet cut core = record {
 abbrev pub core_sum : (At → ℕ) → Cut → ℕ
 core_sum f core = area_sum f core.left core.top core.width core.height
 
--- the window has the halo around each pixel of the core, as far as the sheet goes on there
-abbrev pub HasHalo : PageParts → Cut → Cut → ℕ → Type 0
-HasHalo sheet cut core halo = (x y : ℕ) → x < core.width → y < core.height
-    → IsInside sheet cut (2 * halo) (in_core core x y)
+-- the core lies in the window, and the window has the halo around it on each side on which the
+-- sheet goes on beyond the window
+pub record HasHalo (sheet : PageParts) (cut core : Cut) (halo : ℕ) : Type 0 where
+  pub across : core.left + core.width ≤ cut.width
+  pub down : core.top + core.height ≤ cut.height
+  pub left : 0 < cut.left → halo ≤ core.left
+  pub top : 0 < cut.top → halo ≤ core.top
+  pub right : cut.left + cut.width < width sheet → core.left + core.width + halo ≤ cut.width
+  pub bottom : cut.top + cut.height < height sheet → core.top + core.height + halo ≤ cut.height
 
 -- by its window a core is covered as on the sheet and has the sheet's new tints, and what is
 -- counted there is what the sheet has there
