@@ -8,10 +8,9 @@ use Rattle.sheet_geometry.specs.WindowLaw.{IsInside}
 use Rattle.underprint.specs.declared.parts.White.{White}
 use Rattle.underprint.specs.Underprint.{covered, followed, kept, thickness}
 
--- where no underprint's ink is followed farther than the halo, a pixel has its sheet's cover one
--- pixel from the window's borders, ink is as thick as on the sheet as far from them as it is
--- followed, and a pixel has its sheet's new tints at the halo from them; borders of the sheet do
--- not count
+-- One pixel from the window's borders a pixel has its sheet's cover. As far from them as ink is
+-- followed, ink is as thick as on the sheet. At the halo a pixel has its sheet's new tints: no ink of
+-- an underprint is followed farther. Borders of the sheet do not count.
 pub record UnderWindowLaw (sheet : PageParts) (cut : Cut) (whites : List White) (halo : ℕ)
     : Type 0 where
   pub cover : (p : At) → IsInside sheet cut 2 p
