@@ -359,6 +359,7 @@ def app_bytes(desk, rows, _):
 def sheet(desk, rows, options):
     """A sheet open again after a restart, its reduced copies kept in its folder."""
     if not options.sheet:
+        print("a sheet open again after a restart: left out (--no-sheet)", flush=True)
         return
     desk.open("sheet")
     levels = [os.path.join(desk.folder, "sheet", "page-001", ".desk", name + ".levels") for name in ("before", "after")]
