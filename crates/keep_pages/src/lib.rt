@@ -9,4 +9,5 @@ mod report;
 mod uses;
 
 pub use outcome::{Kept, keep_page};
+pub use planes::{fill_under_black, fill_under_colour};
 pub use uses::KeepUse;

@@ -13,8 +13,8 @@ use page_model::parts::{OutOfMemory, Plane, PlaneList};
 use std::alloc::Global;
 use underprint::WhiteList;
 
-// Writes the tints of plate c, drawn back under black.
-fn fill_under_black(
+/// Writes the tints of plate c, drawn back under black, row by row. `row` is a buffer for a row. It allocates nothing.
+pub fn fill_under_black(
     page: &Page,
     rich: &RichBlack,
     cover: &Cover,
@@ -32,8 +32,8 @@ fn fill_under_black(
     keepaway::draw_plate(page, rich, cover, c, row, tints);
 }
 
-// Writes the tints of plate c, drawn back under colour.
-fn fill_under_colour(
+/// Writes the tints of plate c, drawn back under colour, row by row. `row` is a buffer for a row. It allocates nothing.
+pub fn fill_under_colour(
     page: &Page,
     whites: &WhiteList,
     marks: &[u8],

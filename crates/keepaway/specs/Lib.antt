@@ -1,3 +1,4 @@
 pub mod Keepaway
 pub mod Laws
 pub mod Rows
+pub mod Workspaces

@@ -4,6 +4,7 @@ ghost use Rattle.page_model.specs.Page.{height, width};
 ghost use Rattle.page_model.specs.Zones.{zone_of};
 ghost use Rattle.keepaway.specs.Keepaway.{level};
 ghost use Rattle.keepaway.specs.Rows.{AreLevels, AreMarks, AreZones, CoverLists, HasRows, IsCover, mark};
+ghost use Rattle.keepaway.specs.Workspaces.{IsCoverWorkspace};
 
 use crate::levels::write_levels;
 use crate::marks::write_marks;
@@ -51,7 +52,8 @@ fn fill_zones(page: &Page, spans: &mut SpanBuf, row: &mut [u8], zones: &mut [u8]
     requires spans { spans.old.wide ≡ width page.now }
     requires row { length row.old ≡ width page.now }
     requires zones { length zones.old ≡ width page.now * height page.now }
-    ensures { AreZones page.now zones.new }
+    ensures zones { AreZones page.now zones.new }
+    ensures spans { spans.new.wide ≡ spans.old.wide }
 {
     let height = page.height();
     for y in 0..height {
@@ -104,39 +106,77 @@ fn fill_marks(
     }
 }
 
-/// Finds the cover of a page: where it is black by this limit, in ten-thousandths of full ink. It fails only where
-/// memory runs out.
-pub fn cover_of(alloc: Global, page: &Page, limit: u32) -> Result<Cover, OutOfMemory>
-    requires { limit ≤ scale }
-    ensures { IfOk result (λ cover. IsCover page.now limit cover) }
+/// The buffers that the covers of pages of one size are found in. They are allocated once, and hold the cover that was
+/// found last.
+#[derive(Drop)]
+pub struct CoverWorkspace {
+    pub spans: SpanBuf,
+    /// A buffer for a row.
+    pub row: Vec<u8>,
+    /// How black each pixel is.
+    pub levels: Vec<u8>,
+    pub cover: Cover,
+}
+
+impl CoverWorkspace {
+    /// Allocates the buffers for pages of this page's size. No cover is found yet.
+    pub fn new(alloc: Global, page: &Page) -> Result<CoverWorkspace, OutOfMemory>
+        ensures { IfOk result (IsCoverWorkspace (width page.now) (height page.now)) }
+    {
+        let (width, height) = (page.width(), page.height());
+        let samples = width as usize * height as usize;
+        Ok(CoverWorkspace {
+            spans: SpanBuf::new(alloc, width)?,
+            row: vec_of(alloc, 0u8, width as usize)?,
+            levels: vec_of(alloc, 0u8, samples)?,
+            cover: Cover {
+                width,
+                height,
+                zones: vec_of(alloc, 0u8, samples)?,
+                marks: vec_of(alloc, 0u8, samples)?,
+            },
+        })
+    }
+}
+
+/// Finds the cover of a page of that size: where it is black by this limit, in ten-thousandths of full ink. It replaces
+/// the cover that was found before. It allocates nothing.
+pub fn cover_in(page: &Page, limit: u32, workspace: &mut CoverWorkspace)
+    requires limit { limit ≤ scale }
+    requires workspace { IsCoverWorkspace (width page.now) (height page.now) workspace.old }
+    ensures workspace { IsCoverWorkspace (width page.now) (height page.now) workspace.new }
+    ensures cover { IsCover page.now limit workspace.new.cover }
 {
-    let (width, height) = (page.width(), page.height());
-    let samples = width as usize * height as usize;
-    let mut spans = SpanBuf::new(alloc, width)?;
-    let mut row = vec_of(alloc, 0u8, width as usize)?;
-    let mut zones = vec_of(alloc, 0u8, samples)?;
-    let mut levels = vec_of(alloc, 0u8, samples)?;
-    let mut marks = vec_of(alloc, 0u8, samples)?;
-    fill_zones(page, &mut spans, row.as_mut_slice(), zones.as_mut_slice());
+    let CoverWorkspace {
+        spans,
+        row,
+        levels,
+        cover,
+    } = workspace;
+    fill_zones(page, spans, row.as_mut_slice(), cover.zones.as_mut_slice());
     fill_levels(
         page,
         limit,
-        zones.as_slice(),
+        cover.zones.as_slice(),
         row.as_mut_slice(),
         levels.as_mut_slice(),
     );
     fill_marks(
         page,
         limit,
-        zones.as_slice(),
+        cover.zones.as_slice(),
         levels.as_slice(),
         row.as_mut_slice(),
-        marks.as_mut_slice(),
+        cover.marks.as_mut_slice(),
     );
-    Ok(Cover {
-        width,
-        height,
-        zones,
-        marks,
-    })
+}
+
+/// Finds the cover of a page in buffers of its own. It fails only where memory runs out.
+pub fn cover_of(alloc: Global, page: &Page, limit: u32) -> Result<Cover, OutOfMemory>
+    requires { limit ≤ scale }
+    ensures { IfOk result (λ cover. IsCover page.now limit cover) }
+{
+    let mut workspace = CoverWorkspace::new(alloc, page)?;
+    cover_in(page, limit, &mut workspace);
+    Ok(workspace.cover)
 }

@@ -9,6 +9,6 @@ mod parts;
 mod plate;
 pub mod rows;
 
-pub use cover::{Cover, cover_of};
+pub use cover::{Cover, CoverWorkspace, cover_in, cover_of};
 pub use parts::RichBlack;
 pub use plate::draw_plate;

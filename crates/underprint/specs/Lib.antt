@@ -1,3 +1,4 @@
 pub mod Underprint
 pub mod Laws
 pub mod Lists
+pub mod Workspaces

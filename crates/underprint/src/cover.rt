@@ -6,6 +6,7 @@ ghost use Rattle.page_model.specs.Page.{height, width, InPage};
 ghost use Rattle.keepaway.specs.Rows.{IsRow};
 ghost use Rattle.underprint.specs.Lists.{AreColours, AreMarks, colour_level, mark};
 ghost use Rattle.underprint.specs.Underprint.{covered, touches_outline as touches_spec};
+ghost use Rattle.underprint.specs.Workspaces.{IsCoverWorkspace};
 
 use crate::colour::write_colours;
 use crate::parts::WhiteList;
@@ -111,16 +112,48 @@ fn fill_marks(page: &Page, whites: &WhiteList, levels: &[u8], row: &mut [u8], ma
     }
 }
 
-/// Finds the cover of a page under these underprints: for each pixel 2 where it is covered, else 0. It fails only where
-/// memory runs out.
-pub fn cover_of(alloc: Global, page: &Page, whites: &WhiteList) -> Result<Vec<u8>, OutOfMemory>
-    ensures { IfOk result (λ marks. AreMarks page.now whites.now marks.items) }
+/// The buffers that the covers of pages of one size are found in. They are allocated once, and hold the cover that was
+/// found last.
+#[derive(Drop)]
+pub struct CoverWorkspace {
+    /// The sums of the tints of a row.
+    pub sums: Vec<u32>,
+    /// A buffer for a row.
+    pub row: Vec<u8>,
+    /// Whether each pixel has colour.
+    pub levels: Vec<u8>,
+    /// For each pixel 2 where it is covered, else 0.
+    pub marks: Vec<u8>,
+}
+
+impl CoverWorkspace {
+    /// Allocates the buffers for pages of this page's size. No cover is found yet.
+    pub fn new(alloc: Global, page: &Page) -> Result<CoverWorkspace, OutOfMemory>
+        ensures { IfOk result (IsCoverWorkspace (width page.now) (height page.now)) }
+    {
+        let (width, height) = (page.width() as usize, page.height() as usize);
+        Ok(CoverWorkspace {
+            sums: vec_of(alloc, 0u32, width)?,
+            row: vec_of(alloc, 0u8, width)?,
+            levels: vec_of(alloc, 0u8, width * height)?,
+            marks: vec_of(alloc, 0u8, width * height)?,
+        })
+    }
+}
+
+/// Finds the cover of a page of that size under these underprints. It replaces the cover that was found before. It
+/// allocates nothing.
+pub fn cover_in(page: &Page, whites: &WhiteList, workspace: &mut CoverWorkspace)
+    requires workspace { IsCoverWorkspace (width page.now) (height page.now) workspace.old }
+    ensures workspace { IsCoverWorkspace (width page.now) (height page.now) workspace.new }
+    ensures marks { AreMarks page.now whites.now workspace.new.marks.items }
 {
-    let (width, height) = (page.width() as usize, page.height() as usize);
-    let mut sums = vec_of(alloc, 0u32, width)?;
-    let mut row = vec_of(alloc, 0u8, width)?;
-    let mut levels = vec_of(alloc, 0u8, width * height)?;
-    let mut marks = vec_of(alloc, 0u8, width * height)?;
+    let CoverWorkspace {
+        sums,
+        row,
+        levels,
+        marks,
+    } = workspace;
     fill_colours(
         page,
         whites,
@@ -135,5 +168,14 @@ pub fn cover_of(alloc: Global, page: &Page, whites: &WhiteList) -> Result<Vec<u8
         row.as_mut_slice(),
         marks.as_mut_slice(),
     );
-    Ok(marks)
+}
+
+/// Finds the cover of a page under these underprints in buffers of its own: for each pixel 2 where it is covered, else
+/// 0. It fails only where memory runs out.
+pub fn cover_of(alloc: Global, page: &Page, whites: &WhiteList) -> Result<Vec<u8>, OutOfMemory>
+    ensures { IfOk result (λ marks. AreMarks page.now whites.now marks.items) }
+{
+    let mut workspace = CoverWorkspace::new(alloc, page)?;
+    cover_in(page, whites, &mut workspace);
+    Ok(workspace.marks)
 }

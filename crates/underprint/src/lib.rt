@@ -10,7 +10,7 @@ mod thick;
 mod way;
 mod widths;
 
-pub use cover::cover_of;
+pub use cover::{CoverWorkspace, cover_in, cover_of};
 pub use parts::{White, WhiteList};
 pub use plate::draw_plate;
 pub use way::Way;
