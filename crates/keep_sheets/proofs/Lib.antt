@@ -1,3 +1,5 @@
 pub mod CoreLemmas
 pub mod HaloLemmas
 pub mod RowLemmas
+pub mod RuleLemmas
+pub mod WorkspaceLemmas

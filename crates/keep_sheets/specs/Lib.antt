@@ -1,2 +1,4 @@
 pub mod KeepSheets
 pub mod KeepSums
+pub mod KeepRule
+pub mod KeepWorkspaces

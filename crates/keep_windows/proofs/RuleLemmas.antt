@@ -20,7 +20,7 @@ use Rattle.keep_windows.proofs.ColourLemmas.{covered_same as colour_same}
 use Rattle.keep_windows.proofs.UnderLemmas.{followed_in, kept_same as colour_kept, square_less}
 
 -- nothing is near that lies farther than the rounded width
-near_rounded : (wide resolution : ℕ) → near_limit wide resolution < square (rounded wide resolution + 1)
+pub near_rounded : (wide resolution : ℕ) → near_limit wide resolution < square (rounded wide resolution + 1)
 near_rounded wide resolution = square_less (wide * resolution + 360000) (rounded wide resolution + 1) 720000 (omega arith) (omega arith)
 
 pub black_local : (rich : RichBlack) → IsLocal (under_black rich)
@@ -37,11 +37,11 @@ joined resolution most w ws rest zero d l = omega arith
 joined resolution most w ws rest (suc k) d l = (let here = rest k d (omega (arith, l)) in omega (arith, here))
 
 -- an underprint is followed no farther than the farthest
-below_farthest : (resolution : ℕ) (whites : List White) → All (λ (white : White). followed white.width resolution ≤ farthest resolution whites) whites
+pub below_farthest : (resolution : ℕ) (whites : List White) → All (λ (white : White). followed white.width resolution ≤ farthest resolution whites) whites
 below_farthest resolution [] = λ k d l. absurd (omega (arith, l))
 below_farthest resolution (w ∷ ws) = joined resolution (farthest resolution ws) w ws (below_farthest resolution ws)
 
-some_farthest : (resolution : ℕ) (whites : List White) → 1 ≤ farthest resolution whites
+pub some_farthest : (resolution : ℕ) (whites : List White) → 1 ≤ farthest resolution whites
 some_farthest resolution [] = omega arith
 some_farthest resolution (w ∷ ws) = (let rest = some_farthest resolution ws in omega (arith, rest))
 
