@@ -1,0 +1,4 @@
+pub mod NestLemmas
+pub mod PlaceLemmas
+pub mod RunLemmas
+pub mod RectLemmas
