@@ -1,12 +1,16 @@
-ghost use Rattle.std.specs.Prelude.{◌≡◌, ◌++◌, OnOk, IfOk};
-ghost use Rattle.page_model.specs.Page.{maxval, plates};
-ghost use Rattle.trap_report.specs.Report.{AreCounts, plate_lines, report_of, sided_report_of};
+// The report of a page in memory.
 
-use crate::lines::{Head, add, add_counts, add_plate};
+ghost use Rattle.std.specs.Prelude.{◌≡◌, IfOk, length};
+ghost use Rattle.page_model.specs.Page.{maxval, plates};
+ghost use Rattle.trap_report.specs.Report.{AreCounts, report_of, sided_report_of};
+
+use crate::reported::{Head, Reported};
+use crate::sink::Text;
+use crate::writer::write_lines;
 use lists::list::List;
 use page_model::page::Page;
 use page_model::parts::{Counts, Name, OutOfMemory};
-use std::alloc::{AllocError, Global};
+use std::alloc::Global;
 
 /// The report of a page with its counts: lines that each end with LF, numbers in decimal.
 ///
@@ -32,48 +36,32 @@ pub fn sided_report(
     requires { AreCounts page.now counts.now }
     ensures { IfOk result (λ text. text ≡ sided_report_of page.now width height counts.now) }
 {
-    let mut text: Vec<u8> = Vec::new(alloc);
     let head = Head {
         width,
         height,
         maxval: page.maxval(),
-        plates: page.plates() as u64,
+        plates: u64::from(page.plates()),
     };
-    match add_report(&mut text, page, &head, counts) {
-        Ok(()) => Ok(List::from_vec(text)),
-        Err(_) => Err(OutOfMemory),
-    }
+    text_of(alloc, page, &head, counts)
 }
 
-fn add_report(
-    text: &mut Vec<u8>,
-    page: &Page,
+// The report in memory of what has one.
+pub(crate) fn text_of<P: Reported>(
+    alloc: Global,
+    page: &P,
     head: &Head,
     counts: &Counts,
-) -> Result<(), AllocError>
-    requires counts { AreCounts page.now counts.now }
-    requires maxval { head.now.maxval ≡ maxval page.now }
-    requires plates { head.now.plates ≡ plates page.now }
-    ensures { OnOk result (text.new.items
-        ≡ text.old.items ++ sided_report_of page.now head.now.width head.now.height counts.now) }
+) -> Result<Name, OutOfMemory>
+    requires inks { length (P.parts page.now).inks ≡ plates (P.parts page.now) }
+    requires counts { AreCounts (P.parts page.now) counts.now }
+    requires maxval { head.now.maxval ≡ maxval (P.parts page.now) }
+    requires plates { head.now.plates ≡ plates (P.parts page.now) }
+    ensures { IfOk result (λ text. text
+        ≡ sided_report_of (P.parts page.now) head.now.width head.now.height counts.now) }
 {
-    add_counts(text, head, page.zones() as usize, counts)?;
-    add_plates(text, page, counts)?;
-    add(text, b"end\n")
-}
-
-fn add_plates(text: &mut Vec<u8>, page: &Page, counts: &Counts) -> Result<(), AllocError>
-    requires { AreCounts page.now counts.now }
-    ensures { let lines = plate_lines page.now counts.now (plates page.now) in
-        OnOk result (text.new.items ≡ text.old.items ++ lines) }
-{
-    let changed = counts.plate_changed.as_slice();
-    for plate in 0..page.plates() {
-        add_plate(
-            text,
-            page.ink(plate).name.as_slice(),
-            changed[plate as usize],
-        )?;
+    let mut text = Text::new(alloc);
+    match write_lines(&mut text, page, head, counts) {
+        Ok(()) => Ok(List::from_vec(text.bytes)),
+        Err(_) => Err(OutOfMemory),
     }
-    Ok(())
 }

@@ -1,39 +1,34 @@
 // The lines of a report, and the parts of those that are longer.
 
-ghost use Rattle.std.specs.Prelude.{◌≡◌, ◌≤◌, ◌++◌, ◌∷◌, [], codes, decimal, length};
-ghost use Rattle.page_model.specs.Page.{height, maxval, plates, width};
+ghost use Rattle.std.specs.Prelude.{◌≡◌, ◌++◌, ◌∷◌, [], codes, decimal};
 ghost use Rattle.trap_report.specs.Report.{edges_line, title_line};
 
+use crate::reported::Head;
 use common_errors::line::Line;
-use page_model::parts::PageParts;
 
 // The title, and the beginning of the page's line.
-pub(crate) fn sides_of(sheet: &PageParts) -> Line
-    requires { 1 ≤ plates sheet.now }
-    ensures { result ≡ title_line ++ (codes "page " ++ decimal (width sheet.now) ++ codes " "
-        ++ decimal (height sheet.now)) }
+pub(crate) fn sides_of(head: &Head) -> Line
+    ensures { result ≡ title_line ++ (codes "page " ++ decimal head.now.width ++ codes " "
+        ++ decimal head.now.height) }
 {
-    let planes = sheet.planes.as_slice();
     let mut line = Line::new();
     line.push(b"trap report\npage ");
-    line.push_number(u64::from(planes[0].width));
+    line.push_number(u64::from(head.width));
     line.push(b" ");
-    line.push_number(u64::from(planes[0].height));
+    line.push_number(u64::from(head.height));
     line
 }
 
 // The end of the page's line.
-pub(crate) fn plates_of(sheet: &PageParts) -> Line
-    requires { 1 ≤ plates sheet.now }
-    ensures { result ≡ codes " " ++ decimal (maxval sheet.now) ++ codes " plates "
-        ++ decimal (plates sheet.now) ++ 10 ∷ [] }
+pub(crate) fn plates_of(head: &Head) -> Line
+    ensures { result ≡ codes " " ++ decimal head.now.maxval ++ codes " plates "
+        ++ decimal head.now.plates ++ 10 ∷ [] }
 {
-    let planes = sheet.planes.as_slice();
     let mut line = Line::new();
     line.push(b" ");
-    line.push_number(u64::from(planes[0].maxval));
+    line.push_number(u64::from(head.maxval));
     line.push(b" plates ");
-    line.push_number(planes.len() as u64);
+    line.push_number(head.plates);
     line.push(b"\n");
     line
 }

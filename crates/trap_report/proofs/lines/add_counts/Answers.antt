@@ -1,7 +1,0 @@
--- add_counts: goals that the search finds slowly.
-use Rattle.std.proofs.lemmas.Grind.{common_steps}
-use Rattle.std.proofs.Common.{arith}
-use Rattle.trap_report.proofs.lines.add_counts.Goals as goal
-
-pub returns : goal.returns
-returns c = grind (arith, common_steps)

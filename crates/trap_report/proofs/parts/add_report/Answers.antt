@@ -1,7 +1,0 @@
--- add_report: goals that the search finds slowly.
-use Rattle.std.proofs.lemmas.Grind.{common_steps}
-use Rattle.std.proofs.Common.{arith}
-use Rattle.trap_report.proofs.parts.add_report.Goals as goal
-
-pub returns : goal.returns
-returns c = grind (arith, common_steps)
