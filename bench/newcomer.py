@@ -32,6 +32,9 @@ MOST_SECONDS, WAIT, SKIPPED = 180, 170, 77
 WIDTH = "3"
 REACH = 3 * 600 / 72 + 1
 """How far a trap of that width reaches, in pixels."""
+KEPT = ("const done = arguments[0]; fetch(`/api/pages/${desk.app.page.id}`)"
+        ".then((one) => one.json()).then((page) => done(page.kept))")
+"""A script that answers whether the folder of the page has what is shown."""
 
 
 class Steps:
@@ -186,6 +189,8 @@ def run(folder):
             wait_for(lambda: browser.execute_script(
                 f"const p = desk.app.page; return p.edits.zones[0]?.settings.TrapWidth === {WIDTH}0000 && p.version === p.shown"), "the trapped zone")
             steps.done("a rectangle drawn, its trap width set, and the page trapped")
+            # The plates are in memory at first.
+            wait_for(lambda: browser.execute_async_script(KEPT), "the plates in the page's folder")
             print(f"          {check(browser, page, before):,} pixels of the zone are trapped anew")
         finally:
             browser.quit()

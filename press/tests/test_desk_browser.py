@@ -127,9 +127,24 @@ def fixture_desk(tmp_path):
     found.close()
 
 
+def wait_for_folder(page):
+    """Waits until a page's folder has the traps of its job, which are in memory at first."""
+    from press.desk.kept import Kept
+    kept, end = Kept(Path(page)), time.monotonic() + SECONDS
+    while kept.is_behind((Path(page) / "page.job").read_bytes()) and time.monotonic() < end:
+        time.sleep(0.1)
+
+
+def kept_files(page):
+    """The trapped plates and reports that a page's folder has then."""
+    wait_for_folder(page)
+    return files_of(page)
+
+
 def colours_of(folder, trapped=True):
     """The picture of a page's plates, as the editor paints it."""
     from press.desk.page import DeskPage
+    wait_for_folder(folder)
     page = DeskPage(str(folder))
     pyramid = page.after if trapped else page.before
     pixels = page.inks.paint([np.asarray(plane) for plane in pyramid.planes], 0xFFFF)
@@ -164,7 +179,7 @@ def test_a_new_width_is_seen_at_once_and_is_that_of_the_command(desk, tmp_path):
     desk.settle()
     page = desk.folder / "made" / "page-001"
     assert np.array_equal(desk.picture(), colours_of(page)) and not np.array_equal(desk.picture(), before)
-    assert files_of(page) == trapped_by_command(page, tmp_path / "again")
+    assert kept_files(page) == trapped_by_command(page, tmp_path / "again")
 
 
 def test_changes_at_one_to_one_take_a_request_each_and_are_exact(desk):
@@ -263,7 +278,7 @@ def test_a_zone_is_drawn_changed_undone_and_kept(desk, tmp_path):
     assert desk.browser.execute_script("return desk.app.page.edits.zones.length") == 1
     page = desk.folder / "made" / "page-001"
     desk.settle()
-    assert files_of(page) == trapped_by_command(page, tmp_path / "again")
+    assert kept_files(page) == trapped_by_command(page, tmp_path / "again")
 
 
 def test_a_zone_has_all_settings_of_its_own(desk, tmp_path):
@@ -284,7 +299,7 @@ def test_a_zone_has_all_settings_of_its_own(desk, tmp_path):
     assert desk.browser.find_element(By.ID, "zone-0-StepLimit").is_displayed()
     assert desk.browser.execute_script("return desk.app.page.settings") == before
     page = desk.folder / "made" / "page-001"
-    assert files_of(page) == trapped_by_command(page, tmp_path / "again")
+    assert kept_files(page) == trapped_by_command(page, tmp_path / "again")
 
 
 def test_undo_by_key_gives_the_picture_back(desk):
@@ -380,9 +395,9 @@ def test_a_dropped_file_becomes_pages(desk):
               " && one.state === 'done')")
     folder = next(one for one in desk.folder.iterdir() if one.name.startswith("job-"))
     page = folder / "page-001"
-    made = files_of(page)
+    made = kept_files(page)
     engine.trap(PageFolder.read(str(page)), Settings())
-    assert files_of(page) == made
+    assert kept_files(page) == made
 
 
 @pytest.mark.parametrize("size", [(1500, 950), (1000, 760), (420, 900)])
@@ -556,9 +571,10 @@ def test_keepaway_is_set_in_its_panel(tmp_path):
             act()
             desk.wait(f"return desk.app.page.edits.keepaway === {'null' if said is None else said}")
             desk.settle()
+            wait_for_folder(page)
             assert np.array_equal(cyan_of(page), first) == (said is None)
         assert "preview: keepaway follows" in desk.browser.execute_script("return seen")
         desk.wait("return document.getElementById('preview').hidden")
-        assert files_of(page) == trapped_by_command(page, tmp_path / "again")
+        assert kept_files(page) == trapped_by_command(page, tmp_path / "again")
     finally:
         desk.close()

@@ -37,7 +37,7 @@ if LIBRARY:
 from press.desk.colours import GAP  # noqa: E402
 from press.desk.guard import LOOPBACK, allowed_hosts  # noqa: E402
 from press.desk.page import DeskPage  # noqa: E402
-from press.desk import history, runs  # noqa: E402
+from press.desk import history, keeper, runs  # noqa: E402
 from press.desk.job_queue import TooMuch  # noqa: E402
 from press.desk.serve import Where, bound_socket  # noqa: E402
 from press.desk.server import application, in_time  # noqa: E402
@@ -49,6 +49,8 @@ PORT = 8631
 BASE = f"http://127.0.0.1:{PORT}"
 WIDTH, HEIGHT, DPI = 160, 120, 72
 SECONDS = 60
+# Tests that read a page's folder need not wait long for its plates.
+keeper.SECONDS = 0.1
 
 
 def make_page(folder: Path, maxval: int = 255, number: int = 1, has_lines: bool = False) -> Path:
@@ -106,12 +108,12 @@ def change(client, key, settings=None, zones=(), version=None):
     return client.post(f"/api/pages/{key}/edits", json={"version": version, "edits": edits})
 
 
-def wait_until_shown(client, key):
-    """The page once its plates are those of its job."""
+def wait_until_shown(client, key, is_kept=True):
+    """The page once its plates are those of its job; and once its folder has them, unless that is not asked for."""
     end = time.monotonic() + SECONDS
     while time.monotonic() < end:
         page = client.get(f"/api/pages/{key}").json()
-        if page["version"] == page["shown"] and not page["preview"]:
+        if page["version"] == page["shown"] and not page["preview"] and (page["kept"] or not is_kept):
             return page
         time.sleep(0.05)
     raise AssertionError("the page was not trapped")
@@ -883,7 +885,7 @@ def test_a_large_page_shows_its_progress(folder, monkeypatch):
     made = Path(page.folder.path) / ".press-1-made"
     made.mkdir()
     (made / "Cyan.pgm").write_bytes(bytes(2 * WIDTH * HEIGHT))
-    with run._progress(run.wanted):  # pylint: disable=protected-access
+    with run._progress(run.wanted, page.folder.path, ".press-*/*.pgm"):  # pylint: disable=protected-access
         event = heard.get(timeout=SECONDS)
     run.close()
     assert event["kind"] == "progress" and event["share"] == 2 / len(page.inked) and "67%" in event["text"]

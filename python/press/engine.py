@@ -112,6 +112,16 @@ def trapper_of(page: PageFolder, settings: Settings) -> str:
                      f"{min(fits, dpi)} pixels per inch fit here)", page.path)
 
 
+def ready_program(page: PageFolder, settings: Settings) -> str:
+    """The program that traps a page. Refuses a page without a job, and programs that are not there."""
+    if not os.path.isfile(page.file(JOB)):
+        raise PressError(Status.INPUT, "No such file", page.file(JOB))
+    name = trapper_of(page, settings)
+    if settings.check is not None:
+        tools.program("presscheck")
+    return name
+
+
 def words_of(name: str, page: PageFolder, out: str, settings: Settings) -> list[str]:
     """The arguments of a trapping program."""
     words = ["page"] if name == PAGE_PROGRAM else [str(settings.workers or USUAL_THREADS)]
@@ -124,33 +134,57 @@ def words_of(name: str, page: PageFolder, out: str, settings: Settings) -> list[
 
 def plate_words(page: PageFolder, out: str) -> list[str]:
     """For each plate with ink its ink's name and the plate that trapping begins from, as arguments have them."""
-    return [f"{ink.name}:{os.path.relpath(keepaway.begun_plate(page, ink, out), page.path)}" for ink in page.inked]
+    paths = [keepaway.begun_plate(page, ink, out) for ink in page.inked]
+    inside = os.path.join(page.path, "")
+    return [f"{ink.name}:{os.path.relpath(path, page.path) if path.startswith(inside) else path}"
+            for ink, path in zip(page.inked, paths)]
+
+
+@dataclass(frozen=True)
+class Made:
+    """Trapped plates, report and report.json that are not in the page's folder "trapped" yet: what came of trapping,
+    and what keepaway did."""
+
+    trapped: Trapped
+    kept: keepaway.Done
 
 
 def trap(page: PageFolder, settings: Settings, started: Started | None = None) -> Trapped:
     """Traps a page: trapped plates, report, report.json and, by settings.check, the numbers of presscheck come
     into its folder "trapped", in place of what was there. `started` gets the trapping program's process."""
-    if not os.path.isfile(page.file(JOB)):
-        raise PressError(Status.INPUT, "No such file", page.file(JOB))
-    name = trapper_of(page, settings)
-    if settings.check is not None:
-        tools.program("presscheck")
-    with folder_beside(page.path, inside=True) as made:
-        out = os.path.basename(made)
-        keeping = keepaway.Keepaway(page, settings, out, started)
-        keeping.under_black()
-        run_on(page, name, words_of(name, page, out, settings), page.inked, started)
-        keeping.under_colours()
-        warnings = check(page, out, settings.check) if settings.check is not None else ()
-        report = Report.of(Path(made, REPORT).read_text("utf-8"))
-        write_json(page, report, made, keeping.done)
-        for ink in page.inks:
-            if ink not in page.inked:
-                # No trap can come of a plate without ink, and it stays as it is.
-                link_or_copy(page.plate(ink), os.path.join(made, ink.name + ".pgm"))
-        put_folder(made, page.file(TRAPPED))
-    keepaway.write_down(page, keeping.done)
-    return Trapped(report, (*keeping.done.warnings, *warnings))
+    ready_program(page, settings)
+    with folder_beside(page.path, inside=True) as folder:
+        made = trap_into(page, settings, os.path.basename(folder), started)
+        add_blank(page, folder)
+        put(page, folder, made.kept)
+    return made.trapped
+
+
+def trap_into(page: PageFolder, settings: Settings, out: str, started: Started | None = None) -> Made:
+    """Traps a page into an empty folder: the name of one in the page's folder, or an absolute path. Plates without ink
+    are not there."""
+    name = ready_program(page, settings)
+    keeping = keepaway.Keepaway(page, settings, out, started)
+    keeping.under_black()
+    run_on(page, name, words_of(name, page, out, settings), page.inked, started)
+    keeping.under_colours()
+    warnings = check(page, out, settings.check) if settings.check is not None else ()
+    report = Report.of(Path(page.file(out, REPORT)).read_text("utf-8"))
+    write_json(page, report, page.file(out), keeping.done)
+    return Made(Trapped(report, (*keeping.done.warnings, *warnings)), keeping.done)
+
+
+def add_blank(page: PageFolder, folder: str) -> None:
+    """Adds to a folder of trapped plates those without ink: no trap can come of one, and it stays as it is."""
+    for ink in page.inks:
+        if ink not in page.inked:
+            link_or_copy(page.plate(ink), os.path.join(folder, ink.name + ".pgm"))
+
+
+def put(page: PageFolder, folder: str, kept: keepaway.Done) -> None:
+    """Has a folder of trapped plates, which lies in the page's folder, take the place of "trapped"."""
+    put_folder(folder, page.file(TRAPPED))
+    keepaway.write_down(page, kept)
 
 
 def check(page: PageFolder, out: str, radius: int) -> tuple[str, ...]:

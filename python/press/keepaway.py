@@ -34,6 +34,7 @@ SAID = re.compile(rb"^%%Keepaway: (\d{1,3}(?:\.\d{1,4})?)$", re.M)
 # The share of full ink, in ten-thousandths, from which trapkeep takes a pixel for black.
 BLACK_LIMIT = 8_500
 BAND_ROWS = 256
+MOST_KNOWN = 32
 WHITE = "white"
 # Kinds of which trapkeep draws an ink back, of which a colour covers a white, and that shut a pixel.
 NORMAL, COLOURS, SHUTS = "Normal", ("Normal", "Opaque"), "OpaqueIgnore"
@@ -128,9 +129,19 @@ def blacks_and_others(page: PageFolder, job: Job) -> tuple[list[Ink], list[Ink]]
 
 def inks_under_black(page: PageFolder, blacks: Sequence[Ink], others: Sequence[Ink]) -> list[Ink]:
     """The inks with some ink on pixels that black covers; none unless some pixel is a rich black."""
+    states = [os.stat(page.plate(ink)) for ink in (*blacks, *others)]
+    return list(found_under_black(page, tuple(blacks), tuple(others),
+                                  tuple((one.st_ino, one.st_size, one.st_mtime_ns) for one in states)))
+
+
+@functools.lru_cache(MOST_KNOWN)
+def found_under_black(page: PageFolder, blacks: tuple[Ink, ...], others: tuple[Ink, ...],
+                      _states: tuple[tuple[int, int, int], ...]) -> tuple[Ink, ...]:
+    """The same, looked for once as long as the plates' files have the same state: the trap editor traps a page again
+    and again."""
     plates, maxval = page.plates(), page.head.maxval
     if not has_rich_black(plates, blacks, others):
-        return []
+        return ()
     found: set[str] = set()
     for first, end, top, bottom in plates.bands(BAND_ROWS, 1):
         parts = [plates[ink.name][top:bottom] for ink in blacks]
@@ -141,7 +152,7 @@ def inks_under_black(page: PageFolder, blacks: Sequence[Ink], others: Sequence[I
         cover = black | grown(black) & any_of(part < maxval for part in parts)
         found |= {ink.name for ink in others if ink.name not in found
                   and ((plates[ink.name][top:bottom] < maxval) & cover)[own].any()}
-    return [ink for ink in others if ink.name in found]
+    return tuple(ink for ink in others if ink.name in found)
 
 
 def has_rich_black(plates: Plates, blacks: Sequence[Ink], others: Sequence[Ink]) -> bool:

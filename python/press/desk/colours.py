@@ -5,7 +5,7 @@ Colours are packed as the browser's canvas wants them: red, green, blue and opac
 """
 from __future__ import annotations
 
-from collections.abc import Sequence
+from collections.abc import Mapping, Sequence
 from functools import lru_cache
 from typing import Any
 
@@ -18,6 +18,8 @@ from press.names import PROCESS
 from press.picture import need_profile
 from press.png import encoded
 
+from .pyramid import blank
+
 Tints = NDArray[np.uint8]
 Pixels = NDArray[np.uint32]
 Mask = NDArray[np.bool_]
@@ -27,7 +29,7 @@ DIFFERENT = OPAQUE | np.uint32(0x5B00C2)
 """What differs, or is too much: a red that no process ink has."""
 GAP = OPAQUE | np.uint32(0x3CE600)
 """A gap: a green that no inks over each other have."""
-PIXELS_AT_ONCE = 1 << 16
+PIXELS_AT_ONCE = 1 << 15
 """So many pixels are painted at once: what is computed of them stays in the processor's cache."""
 NO_INK = np.full(1, 255, np.uint8)
 MOST_TABLES = 16
@@ -36,6 +38,8 @@ TOO_MUCH = 300
 """The sum of tints in per cent above which the map of ink marks a place."""
 PALEST, PALE_RANGE = 205, 50
 """The gray of the page below its traps: from PALEST to white."""
+PALE = (PALEST + np.arange(3 * 255 + 1, dtype=np.float32) / np.float32(3) * PALE_RANGE / 255).astype(np.uint32)
+"""That gray by the sum of red, green and blue."""
 
 
 def packed(red: NDArray[np.uint32], green: NDArray[np.uint32], blue: NDArray[np.uint32]) -> Pixels:
@@ -69,39 +73,37 @@ class Inks:
 
     def paint(self, planes: Sequence[Tints], shown: int) -> Pixels:
         """The inks of the plates whose bit is set in `shown`, over each other; planes of any one shape."""
-        shape, flat = planes[0].shape, [np.ascontiguousarray(plane).ravel() for plane in planes]
-        used = [k for k, seen in enumerate(self.seen)
-                if seen and shown >> k & 1 and flat[k].size and flat[k].min() < 255]
-        starts = np.ones(flat[0].size, bool)
-        if starts.size:
-            starts[1:] = False
-        for k in used:
-            starts[1:] |= flat[k][1:] != flat[k][:-1]
+        shape, size = planes[0].shape, planes[0].size
+        flat = {k: np.ascontiguousarray(plane).ravel() for k, plane in enumerate(planes)
+                if self.seen[k] and shown >> k & 1 and size and plane.min() < 255}
+        starts = np.zeros(size, bool)
+        starts[:1] = True
+        for plane in flat.values():
+            starts[1:] |= plane[1:] != plane[:-1]
+            if 3 * np.count_nonzero(starts) > size:  # a photograph: equal pixels do not follow each other
+                return np.asarray(self._light(flat, size).reshape(shape))
         at = np.flatnonzero(starts)
-        if 3 * at.size > starts.size:  # a photograph: equal pixels do not follow each other
-            return np.asarray(self._light(flat, used).reshape(shape))
-        pixels = self._light([plane[at] for plane in flat], used)
-        return np.asarray(np.repeat(pixels, np.diff(at, append=starts.size)).reshape(shape))
+        pixels = self._light({k: plane[at] for k, plane in flat.items()}, at.size)
+        return np.asarray(np.repeat(pixels, np.diff(at, append=size)).reshape(shape))
 
-    def _light(self, flat: Sequence[Tints], used: Sequence[int]) -> Pixels:
-        """The light that pixels send back, two inks at a time by a table for both."""
-        pairs = sorted({k // 2 * 2 for k in used})
+    def _light(self, flat: Mapping[int, Tints], size: int) -> Pixels:
+        """The light that pixels send back, two inks at a time by a table for both. `flat` has the plates with ink."""
+        pairs = sorted({k // 2 * 2 for k in flat})
         tables = [shares_of(*self.lights[first:first + 2]) for first in pairs]
-        out = np.full(flat[0].size, 0xFFFFFFFF, np.uint32)
-        for start in range(0, out.size if pairs else 0, PIXELS_AT_ONCE):
-            part = slice(start, start + PIXELS_AT_ONCE)
-            light = np.full(1, 255, np.float32)
+        out = np.full(size, 0xFFFFFFFF, np.uint32)
+        channels = out.view(np.uint8).reshape(-1, 4)
+        for start in range(0, size if pairs else 0, PIXELS_AT_ONCE):
+            part, light = slice(start, start + PIXELS_AT_ONCE), np.float32(255)
             for first, table in zip(pairs, tables):
-                upper, lower = (flat[k][part] if k in used else NO_INK for k in (first, first + 1))
-                both = np.left_shift(upper, 8, dtype=np.uint16) | lower
-                light = light * np.take(table, both, axis=0, mode="clip")
-            out[part] = (light + np.float32(0.5)).astype(np.uint8).view(np.uint32).ravel()
+                upper, lower = (flat[k][part] if k in flat else NO_INK for k in (first, first + 1))
+                light = np.take(table, np.left_shift(upper, 8, dtype=np.uint16) | lower, axis=0, mode="clip") * light
+            np.copyto(channels[part], light + np.float32(0.5), casting="unsafe")
         return out
 
     def picture(self, mode: str, planes: Sequence[Tints], shown: int, soft: bool) -> Pixels:
         """The plates as inks over each other, by the press's profile if that is asked for and set; or how much ink
         there is."""
-        planes = [plane if shown >> k & 1 and seen else np.full_like(plane, 255)
+        planes = [plane if shown >> k & 1 and seen else blank(plane.shape)
                   for k, (plane, seen) in enumerate(zip(planes, self.seen))]
         if mode == "ink":
             return paint_total(planes)
@@ -110,8 +112,9 @@ class Inks:
     def paint_traps(self, before: Sequence[Tints], changed: Sequence[Mask | None], shown: int,
                     alike: bool = False) -> Pixels:
         """A pale page with each plate's changed pixels in its ink's colour, or with all of them `alike`."""
-        light = self.paint(before, shown).view(np.uint8).reshape(*before[0].shape, 4)[..., :3]
-        pale = (PALEST + light.mean(axis=-1, dtype=np.float32) * PALE_RANGE / 255).astype(np.uint32)
+        light = self.paint(before, shown).view(np.uint8).reshape(*before[0].shape, 4)
+        total = light[..., 0].astype(np.uint16) + light[..., 1] + light[..., 2]
+        pale = PALE[total]
         out = packed(pale, pale, pale)
         for k, mask in enumerate(changed):
             if mask is not None and shown >> k & 1:
@@ -148,8 +151,8 @@ class SoftProof:
 
     def paint(self, planes: Sequence[Tints]) -> Pixels:
         """The inks of the plates over each other; 0 is full ink."""
-        blank = np.full(planes[0].shape, 255, np.uint8)
-        tints = np.stack([255 - (blank if k is None else planes[k]) for k in self.process], axis=-1)
+        paper = blank(planes[0].shape)
+        tints = np.stack([255 - (paper if k is None else planes[k]) for k in self.process], axis=-1)
         light = self._light(tints.reshape(1, -1, len(PROCESS))).reshape(*planes[0].shape, 3)
         for k, spot in self.spots:
             if planes[k].size and planes[k].min() < 255:

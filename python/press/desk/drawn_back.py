@@ -52,10 +52,10 @@ class LastRun:
     report: Mapping[str, Any]
 
     @classmethod
-    def of(cls, page: PageFolder, rule: DrawnBack | None) -> LastRun:
-        """The run that made the trapped plates in a page's folder."""
+    def of(cls, page: PageFolder, rule: DrawnBack | None, trapped: str = TRAPPED) -> LastRun:
+        """The run that made the trapped plates in a folder."""
         try:
-            with open(page.file(TRAPPED, JSON), encoding="utf-8") as file:
+            with open(page.file(trapped, JSON), encoding="utf-8") as file:
                 found = json.load(file)[keepaway.KEY]
             return cls(rule, found if isinstance(found, dict) else {})
         except (OSError, ValueError, KeyError, TypeError):
@@ -75,9 +75,10 @@ class LastRun:
         return bool(self.report.get("underprint"))
 
 
-def begun_planes(page: PageFolder) -> list[Array]:
-    """The plates that the traps of a page began from: those of the page, as far as none was drawn back under black."""
-    return [read_pgm(keepaway.begun_plate(page, ink, TRAPPED)) for ink in page.inks]
+def begun_planes(page: PageFolder, trapped: str = TRAPPED) -> list[Array]:
+    """The plates that the traps in a folder began from: those of the page, as far as none was drawn back under black.
+    """
+    return [read_pgm(keepaway.begun_plate(page, ink, trapped)) for ink in page.inks]
 
 
 def asked(zone: JobZone) -> Asked:

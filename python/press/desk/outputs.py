@@ -151,6 +151,7 @@ class Outputs:
             raise NoSuchOutput("no such file")
         version = page.version
         need_done(page, version)
+        page.bring()
         folder = Path(tempfile.mkdtemp(prefix="press-desk-"))
         try:
             path = KINDS[kind][2](Wanted(page, place, options, folder))

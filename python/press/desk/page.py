@@ -4,13 +4,13 @@ from __future__ import annotations
 
 import secrets
 import threading
-from collections.abc import Mapping, Sequence
+from collections.abc import Callable, Mapping, Sequence
 from dataclasses import replace
 from pathlib import Path
 from typing import Any
 
 from press import folder as folders, keepaway
-from press.errors import PressError
+from press.errors import PressError, Status, reason
 from press.files import whole_file
 from press.folder import PageFolder
 from press.job_language import KEYS, SCALE, Job
@@ -30,6 +30,7 @@ from .kept import Kept
 from .live import InkNames, LivePage
 from .pyramid import Pyramid, open_pyramid, plates_key
 from .reading import read_job
+from .trapped_set import TrappedSet, bring
 
 
 class VersionConflict(Exception):
@@ -40,7 +41,7 @@ class DeskPage:
     """A page folder that is open. Whatever changes the job or the trapped plates holds the lock."""
 
     def __init__(self, path: str, profile: str | None = None) -> None:
-        self.lock = threading.Lock()
+        self.lock, self.bringing = threading.Lock(), threading.Lock()
         self.folder = PageFolder.read(path)
         self.folder.need_trapped()
         self.kept = Kept(Path(path))
@@ -54,8 +55,9 @@ class DeskPage:
         # Tiles of an earlier server must not be taken for this one's: the browser keeps them for ever.
         self.epoch = secrets.token_hex(4)
         self.digest = "", ""
-        self.before = self._pyramid(trapped=False)
-        self.after = self._pyramid(trapped=True)
+        self.trapped = TrappedSet()
+        self.before = self._before()
+        self.after = self._after(self.trapped)
         names = InkNames(self.names, self.inked)
         self.live = LivePage(begun_planes(self.folder), self.maxval, names, self.resolution)
         self._take(Path(self.folder.file(folders.JOB)).read_bytes())
@@ -65,12 +67,17 @@ class DeskPage:
         self.strokes = self.kept.strokes() or self.first
         self.history = self._history()
         # A change has to be made on this version or on a later one: what only moves thin strokes is no conflict.
-        self.shown = self.least = self.version
+        self.least = self.version
+        # The last server may have ended before the folder had the traps of the newest job.
+        self.shown = self.version - self.kept.is_behind(self.text)
 
-    def _pyramid(self, trapped: bool) -> Pyramid:
-        plates = self.folder.plates(trapped)
-        paths = [self.folder.plate(ink, trapped) for ink in self.folder.inks]
-        return open_pyramid(plates.arrays, plates.maxval, self.kept.levels(trapped), plates_key(paths))
+    def _before(self) -> Pyramid:
+        plates, paths = self.folder.plates(), [self.folder.plate(ink) for ink in self.folder.inks]
+        return open_pyramid(plates.arrays, plates.maxval, self.kept.levels(trapped=False), plates_key(paths))
+
+    def _after(self, made: TrappedSet) -> Pyramid:
+        plates, paths = made.plates(self.folder), [made.plate(self.folder, ink) for ink in self.folder.inks]
+        return open_pyramid(plates.arrays, plates.maxval, made.levels(self.kept), plates_key(paths))
 
     def _take(self, text: bytes) -> None:
         """Takes a text for the job."""
@@ -218,18 +225,47 @@ class DeskPage:
         """Whether the trapped plates in the folder are known to be those of an older job."""
         return self.kept.is_behind(self.text) or self.is_preview()
 
-    def take_trapped(self, version: int) -> bool:
-        """Shows the trapped plates that now lie in the folder, made by the job of a version; False if that is not
-        the newest one."""
-        if version != self.version:
-            return False
-        after, begun = self._pyramid(trapped=True), begun_planes(self.folder)
-        with self.lock:
-            if version != self.version:
-                return False
-            self.after, self.shown, self.live.planes = after, version, begun
-            self.last = LastRun.of(self.folder, self.drawn_back)
+    def take_trapped(self, version: int, made: TrappedSet) -> bool:
+        """Shows trapped plates that were made by the job of a version; False, and they are removed from memory, if that
+        is not the newest one."""
+        old = made
+        try:
+            after, begun = self._after(made), begun_planes(self.folder, made.folder)
+            with self.lock:
+                if version != self.version:
+                    return False
+                old, self.trapped = self.trapped, made
+                self.after, self.shown, self.live.planes = after, version, begun
+                self.last = LastRun.of(self.folder, self.drawn_back, made.folder)
+        finally:
+            old.remove()
         return True
+
+    def bring(self, is_wanted: Callable[[], bool] = lambda: True) -> None:
+        """Has the page's folder hold the plates that are shown, if they are still in memory and those of the job: as
+        long as that is wanted, and no others are shown."""
+        with self.bringing:
+            made = self.trapped
+            if not made.is_in_memory or not self._is_newest(made):
+                return
+            try:
+                if not bring(self.folder, self.kept, made, lambda: self._is_newest(made) and is_wanted()):
+                    return
+                on_disk = TrappedSet()
+                after, begun = self._after(on_disk), begun_planes(self.folder)
+            except OSError as fault:
+                if self.trapped is not made:
+                    return
+                raise PressError(Status.OUTPUT, f"the traps are not on the disk: {reason(fault)}") from fault
+            with self.lock:
+                if self.trapped is not made:
+                    return
+                self.trapped, self.after, self.live.planes = on_disk, after, begun
+            made.remove()
+
+    def _is_newest(self, made: TrappedSet) -> bool:
+        """Whether a set of plates is shown, and that of the job as it is now."""
+        return self.trapped is made and made.text == self.text
 
     # What browsers see
 
@@ -238,6 +274,7 @@ class DeskPage:
         with self.lock:
             return {"width": self.width, "height": self.height, "dpi": self.resolution, "maxval": self.maxval,
                     "version": self.version, "shown": self.shown, "epoch": self.epoch, "preview": self.is_preview(),
+                    "kept": not self.trapped.is_in_memory,
                     "lacks": ["thin strokes"] * self.lacks_strokes() + ["keepaway"] * self.lacks_keepaway(),
                     "keepaway": self._keepaway(),
                     "levels": self.before.last_level, "canUndo": bool(self.history.undo),

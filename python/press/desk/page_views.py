@@ -78,15 +78,15 @@ class PageViews:
         """A tile of a level as PNG; None outside the page."""
         page, part = self.page, Part(level, place[0] * TILE, place[1] * TILE, TILE, TILE)
         before, after = page.before, page.after
-        planes = (after if mode in ("after", "ink") else before).part(part)
+        planes = (after if mode in ("after", "ink") else before).part(part, inks)
         if not planes[0].size:
             return None
         if mode not in ("traps", "difference"):
             return png(page.inks.picture(mode, planes, inks, soft))
         if level < FIRST_LEVEL:
-            changed = [new != old for old, new in zip(planes, after.part(part))]
+            changed = [new != old for old, new in zip(planes, after.part(part, inks))]
         else:
-            changed = [np.asarray(mark > 0) for mark in self._changes().part(part)]
+            changed = [np.asarray(mark > 0) for mark in self._changes().part(part, inks)]
         return png(page.inks.paint_traps(planes, changed, inks, mode == "difference"))
 
     def _changes(self) -> Pyramid:

@@ -55,6 +55,11 @@ def eight_bits(plane: Plane, maxval: int) -> Tints:
     return np.asarray((plane.astype(np.uint32) * 255 + maxval // 2) // maxval, np.uint8)
 
 
+def blank(shape: tuple[int, ...]) -> Tints:
+    """A part of a plate without ink; it takes no memory."""
+    return np.broadcast_to(np.uint8(255), shape)
+
+
 def reduced(plane: Tints, times: int) -> Tints:
     """Each square of pixels as its mean; the last ones of a row or column are smaller."""
     height, width = plane.shape
@@ -112,16 +117,23 @@ class Pyramid:
             found.append([left, top, min(right, self.width) - left, min(bottom, self.height) - top])
         return found
 
-    def part(self, part: Part) -> list[Tints]:
-        """A rectangle of all plates as eight bits, cut at the page's border."""
+    def part(self, part: Part, shown: int = -1) -> list[Tints]:
+        """A rectangle of all plates as eight bits, cut at the page's border. Plates whose bit is not set in `shown` are
+        not read, and blank."""
         scale = 1 << part.level if part.level < FIRST_LEVEL else 1
         rows = slice(part.top * scale, (part.top + part.height) * scale)
         columns = slice(part.left * scale, (part.left + part.width) * scale)
-        if part.level >= FIRST_LEVEL:
-            level = self.levels[min(part.level, self.last_level) - FIRST_LEVEL]
-            return [np.array(plane[rows, columns]) for plane in level]
-        full = [eight_bits(np.array(plane[rows, columns]), self.maxval) for plane in self.planes]
-        return [reduced(plane, 2) if plane.size else plane for plane in full] if part.level == 1 else full
+        level = self.planes if part.level < FIRST_LEVEL else self.levels[min(part.level, self.last_level) - FIRST_LEVEL]
+        shape = tuple(-(-side // scale) for side in level[0][rows, columns].shape)
+        return [self._read(plane[rows, columns], part.level) if shown >> k & 1 else blank(shape)
+                for k, plane in enumerate(level)]
+
+    def _read(self, samples: Plane, level: int) -> Tints:
+        """A part of a plate or of a copy, as a level shows it."""
+        if level >= FIRST_LEVEL:
+            return np.array(samples)
+        full = eight_bits(np.array(samples), self.maxval)
+        return reduced(full, 2) if level == 1 and full.size else full
 
 
 def open_pyramid(planes: Sequence[Plane], maxval: int, kept: Path, key: str) -> Pyramid:

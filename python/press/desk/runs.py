@@ -10,6 +10,7 @@ from __future__ import annotations
 import contextlib
 import json
 import logging
+import math
 import os
 import subprocess
 import sys
@@ -19,13 +20,15 @@ from collections.abc import Callable, Iterator
 from concurrent.futures import ThreadPoolExecutor
 from pathlib import Path
 
-from press import engine, tools
+from press import tools
 from press.errors import PressError, Status
-from press.settings import Settings
+from press.programs import Started
 from press.zones_anew import Strokes, by_width
 
+from .keeper import Keeper
 from .memory import give_back
 from .page import DeskPage
+from .trapped_set import TrappedSet, make, memory_folder
 
 LOG = logging.getLogger("press.desk")
 QUIET_SECONDS = 0.25
@@ -34,6 +37,8 @@ SLOTS, SLOT_SECONDS = threading.Semaphore(2), 0.1
 """Two pages are trapped at once; the others wait, so that memory stays bounded."""
 PROGRESS_SECONDS, LARGE = 1.0, 100_000_000
 """A page of so many samples shows progress while it is trapped."""
+LARGE_SHEET, NICE = 500_000_000, 10
+"""A sheet of so many samples takes long enough to be in the way of the next change: it gets what the others leave."""
 Notify = Callable[..., None]
 
 
@@ -45,6 +50,7 @@ class PageRun:
         self.wake = threading.Condition()
         self.wanted, self.is_open = 0, True
         self.changed_at, self.waits = -QUIET_SECONDS, 0.0
+        self.keeper = Keeper(page, notify)
         self.children: set[subprocess.Popen[bytes]] = set()
         self.thread = threading.Thread(target=self._work, daemon=True, name="page-run")
         self.thread.start()
@@ -56,19 +62,21 @@ class PageRun:
         """Stops the run of an older version and asks for one of the newest. `is_seen` says that the answer to the
         change shows it."""
         now = time.monotonic()
+        self.keeper.wait_again()
         with self.wake:
             self.waits = QUIET_SECONDS if is_seen or now - self.changed_at < QUIET_SECONDS else 0.0
             self.wanted, self.changed_at = self.wanted + 1, now
             self._stop_children()
             self.wake.notify()
 
-    def close(self) -> None:
-        """Stops what runs."""
+    def close(self, until: float = math.inf) -> None:
+        """Stops what runs, and brings the traps to the page's folder if that is done until then."""
         with self.wake:
             self.is_open = False
             self._stop_children()
             self.wake.notify()
         self.thread.join(5)
+        self.keeper.close(until)
 
     def _stop_children(self) -> None:
         """Stops what runs for a page. Whoever calls it holds `wake`."""
@@ -90,8 +98,11 @@ class PageRun:
                 done = asked
             self._run(asked)
 
-    def _started(self, asked: int) -> engine.Started:
+    def _started(self, asked: int) -> Started:
         def started(child: subprocess.Popen[bytes]) -> None:
+            if self.page.width * self.page.height * len(self.page.inked) > LARGE_SHEET:
+                with contextlib.suppress(OSError):
+                    os.setpriority(os.PRIO_PROCESS, child.pid, NICE)
             with self.wake:
                 self.children.add(child)
                 if asked != self.wanted or not self.is_open:
@@ -148,18 +159,34 @@ class PageRun:
     def _trap_and_show(self, asked: int, version: int, text: bytes, is_preview: bool) -> bool:
         """Traps the page by its job, the text of a version, and shows it; False if there is a later version."""
         page, start = self.page, time.monotonic()
-        with self._progress(asked):
-            warnings = engine.trap(page.folder, Settings(), self._started(asked)).warnings
-        page.kept.record_trapped(text)
+        made = self._made(asked, text)
         seconds = time.monotonic() - start
         # The system takes a while to release the old plates: browsers are informed first.
         old = page.after, page.live.planes
-        if not page.take_trapped(version):
+        if not page.take_trapped(version, made):
             return False
-        said = [f"page trapped in {seconds:.1f} s", *warnings, *["thin strokes are measured anew"] * is_preview]
+        said = [f"page trapped in {seconds:.1f} s", *made.warnings, *["thin strokes are measured anew"] * is_preview]
         self.notify(kind="shown", version=version, text="; ".join(said))
+        self.keeper.wait_again()
         del old
         return True
+
+    def _made(self, asked: int, text: bytes) -> TrappedSet:
+        """The page trapped by its job: in memory if there is room, else in its folder."""
+        page = self.page.folder
+        folder = memory_folder(page)
+        if folder:
+            try:
+                with self._progress(asked, folder, "*.pgm"):
+                    return make(page, text, folder, self._started(asked))
+            except (PressError, OSError):
+                # Memory may have run out on the way.
+                if not self._is_wanted(asked):
+                    raise
+        with self.page.bringing, self._progress(asked, page.path, ".press-*/*.pgm"):
+            made = make(page, text, None, self._started(asked))
+        self.page.kept.record_trapped(text)
+        return made
 
     def _find_strokes(self, asked: int) -> Strokes | None:
         """The places of thin strokes for the newest job; None if it has changed since."""
@@ -181,8 +208,8 @@ class PageRun:
         return Strokes(rule, by_width(json.loads(printed)))
 
     @contextlib.contextmanager
-    def _progress(self, asked: int) -> Iterator[None]:
-        """Reports, while a large page is trapped, how much of its plates is written."""
+    def _progress(self, asked: int, folder: str, plates: str) -> Iterator[None]:
+        """Reports, while a large page is trapped, how much of its plates is written, by their pattern in a folder."""
         page = self.page
         total = page.width * page.height * len(page.inked)
         if total < LARGE:
@@ -192,7 +219,7 @@ class PageRun:
 
         def report() -> None:
             while not ended.wait(PROGRESS_SECONDS) and self._is_wanted(asked):
-                share = min(0.99, written(page.folder.path) / total / (1 if page.maxval < 256 else 2))
+                share = min(0.99, written(folder, plates) / total / (1 if page.maxval < 256 else 2))
                 self.notify(kind="progress", share=share, text=f"the whole page: {share:.0%}")
         thread = threading.Thread(target=report, daemon=True, name="progress")
         thread.start()
@@ -203,10 +230,10 @@ class PageRun:
             thread.join()
 
 
-def written(folder: str) -> int:
-    """The bytes of the plates in the folders that are being made in a page's folder."""
+def written(folder: str, plates: str) -> int:
+    """The bytes of the plates below a folder, by a pattern."""
     made = 0
-    for path in Path(folder).glob(".press-*/*.pgm"):
+    for path in Path(folder).glob(plates):
         with contextlib.suppress(OSError):
             made += path.stat().st_size
     return made

@@ -14,6 +14,7 @@ from .history import now
 from .page import DeskPage
 from .pyramid import plates_key
 from .record import changing, said_of
+from .trapped_set import TrappedSet
 
 MOST_NOTE, MOST_NAME, MOST_NOTES = 2000, 100, 500
 VERDICTS = ("approved", "rejected")
@@ -38,6 +39,7 @@ def approve(job: Path, number: int, page: DeskPage, body: Mapping[str, Any]) -> 
         raise BadRequest("say your name")
     if body.get("version") != page.version or page.version != page.shown or page.is_preview():
         raise BadRequest("the page has changed, or is not trapped yet: look at it once more")
+    page.bring()
     digest = digest_of(page)
     with changing(job) as part:
         part.setdefault(str(number), {})["approval"] = {"verdict": verdict, "name": name, "time": now(),
@@ -63,7 +65,20 @@ def add_note(job: Path, number: int, page: DeskPage, body: Mapping[str, Any]) ->
 def digest_of(page: DeskPage) -> str:
     """Changes if the job, the inks, or any plate does, before trapping or after. It is computed anew only if a file
     is another one, or has another size or time."""
-    paths = [page.folder.plate(ink, trapped) for trapped in (False, True) for ink in page.folder.inks]
+    while True:
+        made = page.trapped
+        try:
+            return digest_with(page, made)
+        except FileNotFoundError:
+            # Other plates may be shown by now, or the same ones from the page's folder.
+            if page.trapped is made:
+                raise
+
+
+def digest_with(page: DeskPage, made: TrappedSet) -> str:
+    """The digest with these trapped plates."""
+    inks = page.folder.inks
+    paths = [*(page.folder.plate(ink) for ink in inks), *(made.plate(page.folder, ink) for ink in inks)]
     head = page.text + Path(page.folder.file(TABLE)).read_bytes()
     key = hashlib.sha256(head + plates_key(paths).encode()).hexdigest()
     if page.digest[0] != key:

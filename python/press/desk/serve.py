@@ -8,6 +8,7 @@ import os
 import secrets
 import signal
 import socket
+import time
 import webbrowser
 from collections.abc import Callable
 from dataclasses import dataclass
@@ -28,7 +29,8 @@ from .store import Store
 
 USUAL_PORT = 8631
 SHORTEST_TOKEN = 16
-SECONDS_TO_END = 1.0
+SECONDS_TO_END, SECONDS_TO_KEEP = 1.0, 1.6
+"""After a signal: to end answers that are under way, and to have the disk hold what is in memory."""
 
 
 @dataclass(frozen=True)
@@ -99,6 +101,8 @@ class DeskServer(uvicorn.Server):  # type: ignore[misc]
     def _end(self) -> None:
         if self.should_exit:
             self.force_exit = True
+        else:
+            self.store.until = time.monotonic() + SECONDS_TO_KEEP
         self.should_exit = True
         self.store.events.stop()
         asyncio.get_running_loop().call_later(SECONDS_TO_END, self._force)
@@ -160,4 +164,8 @@ def serve(folder: str, where: Where, how: How, say: Callable[[str], None]) -> No
                 webbrowser.open(address)
         config = uvicorn.Config(application(store, where.hosts(), token), log_level="warning", access_log=False,
                                 timeout_keep_alive=30)
-        DeskServer(config, store, ready).run([listening])
+        try:
+            DeskServer(config, store, ready).run([listening])
+        finally:
+            # Uvicorn leaves that out if an answer takes too long.
+            store.close()

@@ -7,6 +7,7 @@ made from the folders' names, so that they stay the same when the server starts 
 from __future__ import annotations
 
 import hashlib
+import math
 import os
 import threading
 from collections import OrderedDict
@@ -70,6 +71,7 @@ class Store:
         self.batch = Batch(self.page_changed, self.page, self.events.tell)
         self.opened: OrderedDict[str, OpenPage] = OrderedDict()
         self.places: dict[str, Place] = {}
+        self.until = math.inf
 
     # What is there
 
@@ -178,13 +180,13 @@ class Store:
         self.batch.begin(self._siblings(key), edits, bool(body.get("zones")))
 
     def close(self) -> None:
-        """Stops all runs."""
+        """Stops all runs, and brings the traps of all pages to their folders as long as there is time."""
         self.queue.close()
         self.batch.close()
         self.outputs.close()
         with self.lock:
             for one in self.opened.values():
-                one.run.close()
+                one.run.close(self.until)
             self.opened.clear()
 
     # What people say of a page, and what they fetch
