@@ -121,9 +121,9 @@ fn copy_checked(raster: &Raster, bytes: &[u8], rect: Rectangle, tints: &mut [u16
 
 // Whether the tints were written: the raster, the rectangle and the tints are right.
 fn write_checked(raster: &Raster, tints: &[u16], rect: Rectangle, bytes: &mut [u8]) -> bool {
-    if raster_fault(Access::Write, raster, bytes.len()).is_some() {
+    let None = raster_fault(Access::Write, raster, bytes.len()) else {
         return false;
-    }
+    };
     if !is_in(raster, rect) || tints.len() != sides(rect) || !are_fit(tints, raster.maxval) {
         return false;
     }
